@@ -1,10 +1,10 @@
 use Rattle.std.proofs.Common.{arith, ◌≡◌, ◌≤◌, ℕ, ◌+◌, List, ◌++◌, length, take, drop, ◌∙◌, ap, sym, subst, length-append, length-drop, length-take, vec_len, Ok}
 use Rattle.std.proofs.lemmas.List.{take-append-le}
 use Rattle.cdc_base.specs.Outside.{IsRead}
-use Rattle.cdc_base.specs.declared.traits.StoreFault.{StoreFault}
+use Rattle.cdc_base.specs.declared.outside.StoreFault.{StoreFault}
 use Rattle.cdc_base.proofs.Fronts.{IsFront, front_more}
-use Rattle.cdc_base.proofs.loops.read_all.Goals as goal
-use Rattle.cdc_base.proofs.loops.read_all.Goals.{then-left-lt4096, else-left-lt4096}
+use Rattle.cdc_base.proofs.whole.read_all.Goals as goal
+use Rattle.cdc_base.proofs.whole.read_all.Goals.{then-left-lt4096, else-left-lt4096}
 
 pub parts-preserved : goal.parts-preserved
 parts-preserved g c =
