@@ -29,10 +29,11 @@ IsPlace (file ∷ files) name None = (string_bytes file.0 ≢ name) × IsPlace f
 IsPlace (file ∷ files) name (Some zero) = string_bytes file.0 ≡ name
 IsPlace (file ∷ files) name (Some (suc k)) = (string_bytes file.0 ≢ name) × IsPlace files name (Some k)
 
--- n bytes stand at the buffer's front, as many as there are from a place on or as it holds; the rest of it stays
-pub record IsCopied (bytes : List ℕ) (at : ℕ) (old new : List ℕ) (n : ℕ) : Type 0 where
-  pub many : n ≡ min (length bytes - at) (length old)
-  pub front : new ≡ take n (drop at bytes) ++ drop n old
+-- n bytes of a file stand at the buffer's front, as many as there are from a place on or as the buffer holds; its rest stays
+abbrev pub IsCopied : Option (List ℕ) → ℕ → List ℕ → List ℕ → ℕ → Type 0
+IsCopied None at old new n = Unit {0}
+IsCopied (Some bytes) at old new n =
+    (n ≡ min (length bytes - at) (length old)) × (new ≡ take n (drop at bytes) ++ drop n old)
 
 -- a fault for a name raises its count by one; a file has a count of its own, and all missing names have one together
 pub record CountsFault (told : List ℕ → Option (List ℕ)) (before now : List ℕ → ℕ) (name : List ℕ) : Type 0 where

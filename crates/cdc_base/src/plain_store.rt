@@ -1,6 +1,6 @@
 //! A store of files in memory that never fails.
 
-ghost use Rattle.std.specs.Prelude.{◌≡◌, ℕ, ◌≤◌, List, Ok, Some, length, IfOk, IfSome, IsOk, unwrap_or, []};
+ghost use Rattle.std.specs.Prelude.{◌≡◌, ℕ, ◌≤◌, List, Ok, Some, length, IfOk, IsOk, unwrap_or, []};
 ghost use Rattle.cdc_base.specs.Causes.{HasCauses};
 ghost use Rattle.cdc_base.specs.Outside.{IsRead, IsCounted};
 ghost use Rattle.cdc_base.specs.Files.{file_of, no_faults, IsCopied};
@@ -8,8 +8,8 @@ ghost use Rattle.cdc_base.specs.Files.{file_of, no_faults, IsCopied};
 use crate::files::{copy_from, place_of};
 use crate::{Store, StoreFault};
 
-/// Files in memory, of which it tells the bytes. It never fails: a missing file is empty. Of two files of one name the
-/// first counts.
+/// Files in memory, of which it tells the bytes. It never fails: a missing file is empty. Of two
+/// files of one name the first counts.
 #[derive(Drop)]
 pub struct PlainStore {
     files: Vec<(String, Vec<u8>)>,
@@ -57,7 +57,7 @@ impl Store for PlainStore {
 
         // It never fails, and what is copied.
         ensures never { IsOk result }
-        ensures copied { IfOk result (λ n. IfSome (plain_told self.old name.now) (λ bytes. IsCopied bytes at buf.old buf.new n)) }
+        ensures copied { IfOk result (λ n. IsCopied (plain_told self.old name.now) at buf.old buf.new n) }
     {
         let count = copy_from(self.bytes_of(name), at, buf);
         self.given = self.given.saturating_add(count as u64);
