@@ -1,2 +1,10 @@
 pub mod Sources
 pub mod Words
+pub mod Names
+pub mod Runs
+pub mod Texts
+pub mod Pieces
+pub mod Replays
+pub mod Answered
+pub mod Laws
+pub mod Ends

@@ -1,16 +1,16 @@
 -- A source has one reading.
-use Rattle.std.proofs.Common.{◌≡◌, ℕ, List, [], ◌∷◌, ◌++◌, refl, sym, ◌∙◌, ap, subst, arith, true, false, append_assoc, length, get_or}
+use Rattle.std.proofs.Common.{◌≡◌, ℕ, List, [], ◌∷◌, ◌++◌, refl, sym, ◌∙◌, ap, arith, true, append_assoc, get_or}
 use Rattle.std.specs.Prelude.{codes, ℤ}
 use Rattle.std.specs.List.{AllPass}
 use Rattle.std.proofs.lemmas.Bool.Decides.{nat_tests}
-use Rattle.cdc_top.specs.Source.{Operand, Number, Variable, Sum, Source, Spells, SpellsSum, IsNumber, IsNamed, IsVariable, IsSource, IsWordAfter, is_digit, is_word_byte, line, sum_text, stops}
+use Rattle.cdc_top.specs.Source.{Operand, Number, Variable, Sum, Source, Spells, SpellsSum, IsNumber, IsVariable, IsSource, is_digit, is_word_byte, line, sum_text, stops}
 use Rattle.cdc_top.specs.Words.{IsSumAfter, IsRead}
-use Rattle.cdc_top.proofs.Words.{all_head, all_tail}
+use Rattle.cdc_top.proofs.Words.{all_head}
 
 -- a number begins with a digit, a variable with a letter
 no_both : (word : List ℕ) (n : ℤ) → IsNumber word n → IsVariable word → ⊥
-no_both [] n number variable = omega (arith, number.some)
-no_both (b ∷ word) n number variable = let digit : is_digit b ≡ true = all_head is_digit b word number.digits in grind (arith, nat_tests, digit, variable.first)
+no_both [] n number variable = omega (arith, number.written.some)
+no_both (b ∷ word) n number variable = let digit : is_digit b ≡ true = all_head is_digit b word number.written.digits in grind (arith, nat_tests, digit, variable.first)
 
 -- a number stands for itself alone
 pub number_only : (word : List ℕ) (n : ℤ) → IsNumber word n → (o : Operand) → Spells word o → Number n ≡ o
@@ -25,7 +25,7 @@ digit_is_word : (b : ℕ) → is_digit b ≡ true → is_word_byte b ≡ true
 digit_is_word b is = grind (arith, is)
 
 spelled_word : (word : List ℕ) (o : Operand) → Spells word o → AllPass is_word_byte word
-spelled_word word (Number n) is = λ k d within. digit_is_word (get_or word k d) (is.digits k d within)
+spelled_word word (Number n) is = λ k d within. digit_is_word (get_or word k d) (is.written.digits k d within)
 spelled_word word (Variable name) is = is.0.bytes
 
 -- the words of a sum, one behind the other

@@ -1,6 +1,6 @@
 -- The words of a source and the texts between them.
-use Rattle.std.proofs.Common.{◌≡◌, ℕ, zero, suc, ◌+◌, ◌-◌, ◌*◌, ◌^◌, ◌≤◌, ◌<◌, List, [], ◌∷◌, ◌++◌, length, take, get_or, refl, sym, ◌∙◌, ap, subst, arith, true, false, Bool, lit<, lit≤}
-use Rattle.std.specs.List.{AllPass, All}
+use Rattle.std.proofs.Common.{◌≡◌, ℕ, suc, ◌+◌, ◌-◌, ◌*◌, ◌^◌, ◌≤◌, ◌<◌, List, [], ◌∷◌, ◌++◌, length, take, get_or, refl, sym, ◌∙◌, ap, arith, true, Bool, lit<, lit≤}
+use Rattle.std.specs.List.{AllPass}
 use Rattle.std.specs.Str.Parse.{AllDigits, digits_value}
 use Rattle.std.specs.Char.{digit_value}
 use Rattle.std.proofs.Math.Nat.{pow-le-pow_right}
@@ -10,7 +10,7 @@ use Rattle.std.proofs.lemmas.List.Elements.{All-get_or}
 use Rattle.std.proofs.lemmas.Int.Digits.{digits_value_more, digits_value-lt}
 use Rattle.std.proofs.lemmas.Str.Parse.{digits_value-take-le}
 use Rattle.std.proofs.lemmas.Bool.Decides.{nat_tests}
-use Rattle.cdc_top.specs.Source.{is_digit, is_word_byte, stops, IsWordAfter}
+use Rattle.cdc_top.specs.Source.{AreDigits, is_digit, is_word_byte, stops, IsWordAfter}
 
 pub all_head : (p : ℕ → Bool) (b : ℕ) (v : List ℕ) → AllPass p (b ∷ v) → p b ≡ true
 all_head p b v is = is 0 b (omega arith)
@@ -59,15 +59,16 @@ pub record NumberStep (ds : List ℕ) (i : ℕ) : Type 0 where
   pub step : digits_value 10 (take (i + 1) ds) ≡ digits_value 10 (take i ds) * 10 + (get_or ds i 0 - 48)
   pub bound : digits_value 10 (take (i + 1) ds) < 10 ^ 18
 
-pub short_number : (ds : List ℕ) → AllPass is_digit ds → length ds ≤ 18 → digits_value 10 ds < 10 ^ 18
-short_number ds is short = let up : 10 ^ length ds ≤ 10 ^ 18 = pow-le-pow_right (lit< tt) short in omega (arith, up, digits_value-lt 10 ds (all_digits ds is))
+pub short_number : (ds : List ℕ) → AreDigits 18 ds → digits_value 10 ds < 10 ^ 18
+short_number ds written = let short : length ds ≤ 18 = written.short in let up : 10 ^ length ds ≤ 10 ^ 18 = pow-le-pow_right (lit< tt) short in omega (arith, up, digits_value-lt 10 ds (all_digits ds written.digits))
 
-pub number_step : (ds : List ℕ) (i : ℕ) → AllPass is_digit ds → length ds ≤ 18 → i < length ds → NumberStep ds i
-number_step ds i is short within =
+pub number_step : (ds : List ℕ) (i : ℕ) → AreDigits 18 ds → i < length ds → NumberStep ds i
+number_step ds i written within =
+    let is : AllPass is_digit ds = written.digits in
     let here : is_digit (get_or ds i 0) ≡ true = All-get_or (λ b. is_digit b ≡ true) ds i 0 within is in
     record {
       low = digit_low _ here;
       high = digit_high _ here;
       step = digits_value_more 10 ds i within ∙ ap (λ n. digits_value 10 (take i ds) * 10 + n) (digit_is _ here);
-      bound = omega (arith, digits_value-take-le 10 ds (i + 1) (lit≤ tt), short_number ds is short);
+      bound = omega (arith, digits_value-take-le 10 ds (i + 1) (lit≤ tt), short_number ds written);
     }

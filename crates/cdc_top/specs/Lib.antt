@@ -1,2 +1,15 @@
+pub mod Answer
+pub mod Code
+pub mod Laws
+pub mod Machine
+pub mod Meaning
+pub mod Named
+pub mod Pieces
+pub mod Ready
+pub mod Replay
+pub mod Report
+pub mod Schedule
 pub mod Source
+pub mod Status
+pub mod Word
 pub mod Words

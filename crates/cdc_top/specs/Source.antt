@@ -60,11 +60,15 @@ pub data Operand : Type 0 where
   Number : ℤ → Operand
   Variable : List ℕ → Operand
 
--- a number of 1 to 18 digits
-pub record IsNumber (word : List ℕ) (n : ℤ) : Type 0 where
+-- digits, of which there are 1 to a limit
+pub record AreDigits (most : ℕ) (word : List ℕ) : Type 0 where
   pub digits : AllPass is_digit word
   pub some : 1 ≤ length word
-  pub short : length word ≤ 18
+  pub short : length word ≤ most
+
+-- a number of 1 to 18 digits
+pub record IsNumber (word : List ℕ) (n : ℤ) : Type 0 where
+  pub written : AreDigits 18 word
   pub value : n ≡ pos (digits_value 10 word)
 
 -- the word stands for the operand

@@ -1,5 +1,5 @@
 -- A source as words between fixed texts, from its first byte on.
-use Rattle.std.specs.Prelude.{◌≡◌, ℕ, List, [], ◌∷◌, ◌++◌, codes, true}
+use Rattle.std.specs.Prelude.{ℕ, List, [], ◌∷◌, ◌++◌, codes}
 use Rattle.cdc_top.specs.declared.source.Operand.{Operand as ReadOperand}
 use Rattle.cdc_top.specs.declared.source.Operand.TheVariants as read
 use Rattle.cdc_top.specs.declared.source.Sum.{Sum as ReadSum}

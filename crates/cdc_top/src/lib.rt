@@ -1,4 +1,15 @@
 //! The top call: it reads the words of a command line and writes what `cdcc` prints.
 #![tactic(auto)]
 
+mod machine;
+mod replay;
+mod report;
+mod run;
+mod schedule;
 mod source;
+mod text;
+mod tool;
+mod translate;
+
+use cdc_base::NoMemory;
+pub use tool::run_tool;

@@ -1,9 +1,9 @@
 // The one form of a source: `PROGRAM name`, `variable = sum`, `PRINT *, sum` and `END`, each on a line.
-ghost use Rattle.std.specs.Prelude.{◌≡◌, ◌≢◌, ℕ, ◌≤◌, ◌<◌, [], ◌∷◌, ◌++◌, ◌↔◌, ◌||◌, ◌&&◌, List, length, IsTrue, true, false, IfSome, MatchOption, IsSomeAnd, ℤ, pos, codes};
+ghost use Rattle.std.specs.Prelude.{◌≡◌, ◌≢◌, ℕ, ◌≤◌, ◌<◌, ◌^◌, [], ◌∷◌, ◌++◌, ◌↔◌, ◌||◌, ◌&&◌, List, length, IsTrue, true, false, IfSome, MatchOption, IsSomeAnd, ℤ, pos, codes};
 ghost use Rattle.std.specs.List.{AllPass, list_any};
 ghost use Rattle.std.specs.Str.{bytes_eq};
 ghost use Rattle.std.specs.Str.Parse.{digits_value};
-ghost use Rattle.cdc_top.specs.Source.{is_word_byte, is_digit, is_between, begins, reserved, stops, IsWordAfter, IsNamed, IsNumber, Spells, IsSource, Number, Operand as Given, Sum as GivenSum, Source as GivenSource};
+ghost use Rattle.cdc_top.specs.Source.{is_word_byte, is_digit, is_between, begins, reserved, stops, IsWordAfter, IsNamed, AreDigits, Spells, IsSource, Number, Operand as Given, Sum as GivenSum, Source as GivenSource};
 ghost use Rattle.cdc_top.specs.Words.{operand_of, sum_of, source_of, IsSumAfter, IsHeading, AreSums, IsRead};
 
 /// The words that are no names.
@@ -42,7 +42,8 @@ fn is_word_byte_of(b: u8) -> bool
     b.is_ascii_digit() || b.is_ascii_uppercase()
 }
 
-fn is_one_of(word: &[u8], words: &[&[u8]]) -> bool
+/// Whether a word is one of a list.
+pub fn is_one_of(word: &[u8], words: &[&[u8]]) -> bool
     ensures { result ≡ list_any (λ w. bytes_eq word.now w.now) words.now }
 {
     words.iter().any(|w| word == *w)
@@ -68,8 +69,8 @@ fn split_word(bytes: &[u8]) -> (&[u8], &[u8])
     bytes.split_at(count)
 }
 
-// What follows a text at the front of the bytes.
-fn behind<'a>(before: &[u8], bytes: &'a [u8]) -> Option<&'a [u8]>
+/// What follows a text at the front of the bytes.
+pub fn behind<'a>(before: &[u8], bytes: &'a [u8]) -> Option<&'a [u8]>
     ensures { MatchOption result ((rest : List ℕ) → bytes.now ≢ before.now ++ rest) (λ r. bytes.now ≡ before.now ++ r.now) }
 {
     bytes.strip_prefix(before)
@@ -95,17 +96,17 @@ fn is_named(word: &[u8], low: u8, high: u8) -> bool
     low <= *first && *first <= high && word.len() <= 31 && !is_reserved(word)
 }
 
-// The number that digits write.
-fn number(digits: &[u8]) -> i64
-    requires digits { AllPass is_digit digits.now }
-    requires short { length digits.now ≤ 18 }
-    ensures { result ≡ pos (digits_value 10 digits.now) }
+/// The number that digits write, of which there are at most 18.
+pub fn number(digits: &[u8]) -> u64
+    requires { AreDigits 18 digits.now }
+    ensures value { result ≡ digits_value 10 digits.now }
+    ensures small { result < 10 ^ 18 }
 {
     let mut value: u64 = 0;
     for digit in digits {
         value = value * 10 + (*digit - b'0') as u64;
     }
-    value as i64
+    value
 }
 
 /// An operand of a sum.
@@ -130,20 +131,20 @@ pub struct Source<'a> {
     pub shown: Sum<'a>,
 }
 
-// A number has 1 to 18 digits.
-fn is_number(word: &[u8]) -> bool
-    ensures yes { result ≡ true → IsNumber word.now (pos (digits_value 10 word.now)) }
-    ensures no { result ≡ false → (n : ℤ) → IsNumber word.now n → ⊥ }
+/// Whether the bytes are digits, of which there are 1 to a limit.
+pub fn are_digits(word: &[u8], most: usize) -> bool
+    ensures yes { result ≡ true → AreDigits most word.now }
+    ensures no { result ≡ false → AreDigits most word.now → ⊥ }
 {
-    !word.is_empty() && word.len() <= 18 && word.iter().all(|b| b.is_ascii_digit())
+    !word.is_empty() && word.len() <= most && word.iter().all(|b| b.is_ascii_digit())
 }
 
 // The number that a word writes, as an operand.
 fn number_operand(word: &[u8]) -> Operand<'_>
-    requires { IsNumber word.now (pos (digits_value 10 word.now)) }
+    requires { AreDigits 18 word.now }
     ensures { operand_of result ≡ Number (pos (digits_value 10 word.now)) }
 {
-    Operand::Number(number(word))
+    Operand::Number(number(word) as i64)
 }
 
 // What a word stands for as an operand.
@@ -152,7 +153,7 @@ fn read_operand(word: &[u8]) -> Option<Operand<'_>>
     ensures found { IfSome result (λ o. Spells word.now (operand_of o)) }
     ensures only { (o : Given) → Spells word.now o → IsSomeAnd result (λ r. operand_of r ≡ o) }
 {
-    if is_number(word) {
+    if are_digits(word, 18) {
         return Some(number_operand(word));
     }
     if is_named(word, b'I', b'N') {

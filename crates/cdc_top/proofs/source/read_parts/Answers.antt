@@ -1,4 +1,4 @@
-use Rattle.std.proofs.Common.{◌≡◌, subst, sym, List, ℕ}
+use Rattle.std.proofs.Common.{subst, sym, List, ℕ}
 use Rattle.cdc_top.specs.Words.{AreSums}
 use Rattle.cdc_top.proofs.Sources.{same_source}
 use Rattle.cdc_top.proofs.source.read_parts.Goals as goal

@@ -1,0 +1,162 @@
+-- What the tool answers to the words of a command line: bytes and a status.
+use Rattle.std.specs.Prelude.{◌≡◌, ◌≢◌, ℕ, ◌≤◌, List, [], ◌∷◌, length, Option, Some, None, if◌then◌else◌, ◌==◌, ◌&&◌, Bool, false, not, codes, ◌⊎◌}
+use Rattle.std.specs.Str.{bytes_eq}
+use Rattle.cdc_base.specs.Causes.{Rose}
+use Rattle.cdc_base.specs.Outside.{grown}
+use Rattle.cdc_top.specs.Machine.{run}
+use Rattle.cdc_top.specs.Pieces.{GrewByFront}
+use Rattle.cdc_top.specs.Report.{joined, printed, outcome_of, status_of}
+use Rattle.cdc_top.specs.Schedule.{IsSchedule}
+use Rattle.cdc_top.specs.Source.{Source, IsSource, line}
+use Rattle.cdc_top.specs.Status.{IsFinished}
+
+pub record Answer : Type 0 where
+  pub bytes : List ℕ
+  pub status : ℕ
+
+abbrev pub answer : List ℕ → ℕ → Answer
+answer bytes status = record { bytes = bytes; status = status }
+
+-- a command by its words
+pub data Command : Type 0 where
+  Run : (program input schedule : List ℕ) → Command
+  Usage : Command
+
+-- a word that is empty or begins with `-` is no name of a file
+abbrev pub is_name : List ℕ → Bool
+is_name [] = false
+is_name (b ∷ word) = not (b == 45)
+
+abbrev pub run_of : List ℕ → List ℕ → List ℕ → List ℕ → Command
+run_of verb program input schedule =
+    if bytes_eq verb (codes "run") && (is_name program && (is_name input && is_name schedule)) then Run program input schedule else Usage
+
+abbrev pub command_of : List (List ℕ) → Command
+command_of [] = Usage
+command_of (verb ∷ []) = Usage
+command_of (verb ∷ program ∷ []) = Usage
+command_of (verb ∷ program ∷ input ∷ []) = Usage
+command_of (verb ∷ program ∷ input ∷ schedule ∷ []) = run_of verb program input schedule
+command_of (verb ∷ program ∷ input ∷ schedule ∷ more ∷ words) = Usage
+
+abbrev pub usage_text : List ℕ
+usage_text = joined (
+    line (codes "usage: cdcc run PROG INPUT SCHED") ∷ line (codes "       cdcc check PROG") ∷ line (codes "       cdcc marks PROG")
+    ∷ line (codes "       cdcc code PROG") ∷ line (codes "       cdcc seq PROG INPUT") ∷ line (codes "       cdcc bench N") ∷ [])
+
+-- the bytes of the files that a command reads, each as it was read
+pub record Files : Type 0 where
+  pub program : List ℕ
+  pub input : List ℕ
+  pub schedule : List ℕ
+
+-- the limits of the three files, in bytes
+abbrev pub source_limit : ℕ
+source_limit = 262144
+
+abbrev pub schedule_limit : ℕ
+schedule_limit = 16777216
+
+-- a source within its limit that has the form
+pub record IsAccepted (bytes : List ℕ) (source : Source) : Type 0 where
+  pub within : length bytes ≤ source_limit
+  pub is_source : IsSource bytes source
+
+-- a schedule within its limit that has the form, with its bound
+pub record IsHeader (bytes : List ℕ) (bound : ℕ) : Type 0 where
+  pub within : length bytes ≤ schedule_limit
+  pub is_schedule : IsSchedule bytes bound
+
+abbrev pub source_refused : Answer
+source_refused = answer (line (codes "refused NotAStatement at line 1")) 3
+
+abbrev pub input_refused : Answer
+input_refused = answer (line (codes "refused input at 1:1")) 4
+
+abbrev pub schedule_refused : Answer
+schedule_refused = answer (line (codes "refused header line 1")) 4
+
+-- a run prints its output and the lines on it, with the status of its end
+abbrev pub ran : Source → ℕ → Answer
+ran source bound = answer (printed (run source bound) bound) (status_of (outcome_of (run source bound).machine))
+
+-- the schedule is refused, or the run is answered
+abbrev pub ScheduleAnswers : Source → Files → Answer → Type 0
+ScheduleAnswers source files a =
+    (((bound : ℕ) → IsHeader files.schedule bound → ⊥) × (a ≡ schedule_refused)) ⊎ ((bound : ℕ) × IsHeader files.schedule bound × (a ≡ ran source bound))
+
+-- before that, the input is refused where it is not empty
+abbrev pub InputAnswers : Source → Files → Answer → Type 0
+InputAnswers source files a = ((files.input ≢ []) × (a ≡ input_refused)) ⊎ ((files.input ≡ []) × ScheduleAnswers source files a)
+
+-- before that, the program is refused where it has not the form
+abbrev pub RunAnswers : Files → Answer → Type 0
+RunAnswers files a =
+    (((source : Source) → IsAccepted files.program source → ⊥) × (a ≡ source_refused)) ⊎ ((source : Source) × IsAccepted files.program source × InputAnswers source files a)
+
+-- the answer to a command over the bytes of its files
+abbrev pub Answers : Command → Files → Answer → Type 0
+Answers (Run program input schedule) files a = RunAnswers files a
+Answers Usage files a = a ≡ answer usage_text 2
+
+-- the bytes of a file, where they are told, are these
+abbrev pub IsTold : Option (List ℕ) → List ℕ → Type 0
+IsTold None bytes = Unit {0}
+IsTold (Some told) bytes = bytes ≡ told
+
+-- the files of a command have the bytes that the store tells, where it tells them
+abbrev pub AreTold : Command → (List ℕ → Option (List ℕ)) → Files → Type 0
+AreTold (Run program input schedule) told files = IsTold (told program) files.program × IsTold (told input) files.input × IsTold (told schedule) files.schedule
+AreTold Usage told files = Unit {0}
+
+-- a file's count rose, and nothing before its reading is refused
+abbrev pub InputFailed : List ℕ → List ℕ → Files → (List ℕ → ℕ) → (List ℕ → ℕ) → Type 0
+InputFailed input schedule files before now = Rose (before input) (now input) ⊎ ((files.input ≡ []) × Rose (before schedule) (now schedule))
+
+abbrev pub ReadFailed : Command → Files → (List ℕ → ℕ) → (List ℕ → ℕ) → Type 0
+ReadFailed (Run program input schedule) files before now =
+    Rose (before program) (now program) ⊎ ((source : Source) × IsAccepted files.program source × InputFailed input schedule files before now)
+ReadFailed Usage files before now = ⊥
+
+-- How a call ended, by what files it may have read, what their answers are and when a reading of them fails.
+pub record Ended (are_told : Files → Type 0) (answers : Files → Answer → Type 0) (failed : Files → Type 0) (status : ℕ) (old new : Option (List ℕ)) (before now : List ℕ → ℕ) (sink_before sink_now : ℕ) : Type 0 where
+  pub files : Files
+  pub told : are_told files
+  -- the status is the answer's, and the sink grew by the answer's bytes; there is no other answer
+  pub whole : IsFinished status → (a : Answer) × answers files a × ((b : Answer) → answers files b → b ≡ a) × (status ≡ a.status) × (new ≡ grown old a.bytes)
+  -- a fault of the sink leaves a front of the answer's bytes
+  pub part : status ≡ 6 → (a : Answer) × answers files a × GrewByFront old new a.bytes
+  -- a fault of a file and want of memory leave nothing
+  pub nothing : (status ≡ 5) ⊎ (status ≡ 7) → new ≡ old
+  pub read_fault : status ≡ 5 → failed files
+  pub write_fault : status ≡ 6 → Rose sink_before sink_now
+  -- no fault is passed over
+  pub quiet : IsFinished status → ((name : List ℕ) → now name ≡ before name) × (sink_now ≡ sink_before)
+
+-- how a call of the tool ended
+abbrev pub ToolEnded : Command → (List ℕ → Option (List ℕ)) → ℕ → Option (List ℕ) → Option (List ℕ) → (List ℕ → ℕ) → (List ℕ → ℕ) → ℕ → ℕ → Type 0
+ToolEnded command told status old new before now sink_before sink_now =
+    Ended (AreTold command told) (Answers command) (λ files. ReadFailed command files before now) status old new before now sink_before sink_now
+
+-- an answer was written whole, or a front of it where the sink failed, or nothing for want of memory
+pub record Said (a : Answer) (status : ℕ) (old new : Option (List ℕ)) (before now : ℕ) : Type 0 where
+  pub whole : IsFinished status → (status ≡ a.status) × (new ≡ grown old a.bytes) × (now ≡ before)
+  pub part : status ≡ 6 → GrewByFront old new a.bytes × Rose before now
+  pub memory : status ≡ 7 → new ≡ old
+  pub reads : status ≢ 5
+
+-- The answer to the words was taken whole with its status, or a front of it after a fault of the sink, or nothing.
+pub record IsAnswered (command : Command) (told : List ℕ → Option (List ℕ)) (status : ℕ) (old new : Option (List ℕ)) : Type 0 where
+  pub files : Files
+  pub are_told : AreTold command told files
+  pub whole : IsFinished status → (a : Answer) × Answers command files a × ((b : Answer) → Answers command files b → b ≡ a) × (status ≡ a.status) × (new ≡ grown old a.bytes)
+  pub part : status ≡ 6 → (a : Answer) × Answers command files a × GrewByFront old new a.bytes
+  pub nothing : (status ≡ 5) ⊎ (status ≡ 7) → new ≡ old
+
+-- A fault is answered only where the count of a file or of the sink rose, and else no count moved.
+pub record IsCaused (command : Command) (told : List ℕ → Option (List ℕ)) (status : ℕ) (before now : List ℕ → ℕ) (sink_before sink_now : ℕ) : Type 0 where
+  pub files : Files
+  pub are_told : AreTold command told files
+  pub read_fault : status ≡ 5 → ReadFailed command files before now
+  pub write_fault : status ≡ 6 → Rose sink_before sink_now
+  pub quiet : IsFinished status → ((name : List ℕ) → now name ≡ before name) × (sink_now ≡ sink_before)

@@ -1,0 +1,73 @@
+-- The lines that `run` prints behind the program's output.
+use Rattle.std.specs.Prelude.{ℕ, ◌==◌, Bool, true, if◌then◌else◌, List, [], ◌∷◌, ◌++◌, codes, pos, unwrap_or}
+use Rattle.cdc_num.specs.Decimal.{decimal_bytes}
+use Rattle.cdc_prog.specs.declared.program.FaultKind.{FaultKind}
+use Rattle.cdc_prog.specs.declared.program.FaultKind.TheVariants.{Overflow, ZeroDivisor, Subscript, ZeroStep, TripTooLarge, InputEnded}
+use Rattle.cdc_top.specs.declared.machine.Outcome.{Outcome}
+use Rattle.cdc_top.specs.declared.machine.Outcome.TheVariants.{Done, Fault, Stopped}
+use Rattle.cdc_top.specs.declared.machine.Counts.{Counts}
+use Rattle.cdc_top.specs.Machine.{Machine, State}
+
+abbrev pub number : ℕ → List ℕ
+number n = decimal_bytes (pos n)
+
+abbrev pub kind_text : FaultKind → List ℕ
+kind_text Overflow = codes "overflow"
+kind_text ZeroDivisor = codes "zero divisor"
+kind_text Subscript = codes "subscript"
+kind_text ZeroStep = codes "zero step"
+kind_text TripTooLarge = codes "trip too large"
+kind_text InputEnded = codes "input ended"
+
+-- texts one after another
+abbrev pub joined : List (List ℕ) → List ℕ
+joined [] = []
+joined (text ∷ texts) = text ++ joined texts
+
+abbrev pub line_feed : List ℕ
+line_feed = 10 ∷ []
+
+abbrev pub end_line : Outcome → List ℕ
+end_line Done = joined (codes "= end done" ∷ line_feed ∷ [])
+end_line (Fault kind at) = joined (codes "= end fault " ∷ kind_text kind ∷ codes " at line " ∷ number at ∷ line_feed ∷ [])
+end_line Stopped = joined (codes "= end stopped" ∷ line_feed ∷ [])
+
+-- the boundaries and the events; a serial program has one epoch, and with one processor no event is idle
+abbrev pub event_lines : ℕ → ℕ → List ℕ
+event_lines events bound = joined (
+    codes "= boundaries " ∷ number 0 ∷ line_feed
+    ∷ codes "= events " ∷ number events ∷ codes " of " ∷ number bound ∷ line_feed
+    ∷ codes "= idle " ∷ number 0 ∷ line_feed ∷ [])
+
+abbrev pub count_line : Counts → List ℕ
+count_line counts = joined (
+    codes "= p0 steps " ∷ number counts.steps ∷ codes " reads " ∷ number counts.reads ∷ codes " ordinary " ∷ number counts.ordinary
+    ∷ codes " marked " ∷ number counts.marked ∷ codes " misses " ∷ number counts.misses ∷ codes " evicted " ∷ number counts.evicted
+    ∷ codes " invalidated " ∷ number counts.invalidated ∷ line_feed ∷ [])
+
+-- how the run ended; where the machine has not ended it was stopped
+abbrev pub outcome_of : Machine → Outcome
+outcome_of machine = unwrap_or machine.ended Stopped
+
+-- nothing, or bytes whose last is a line end
+abbrev pub ends_line : List ℕ → Bool
+ends_line [] = true
+ends_line (b ∷ []) = b == 10
+ends_line (b ∷ c ∷ rest) = ends_line (c ∷ rest)
+
+-- the line end that an output may lack
+abbrev pub line_end : List ℕ → List ℕ
+line_end output = if ends_line output then [] else 10 ∷ []
+
+abbrev pub report : Machine → ℕ → List ℕ
+report machine bound = end_line (outcome_of machine) ++ (event_lines machine.events bound ++ count_line machine.counts)
+
+-- all that a run with that bound prints
+abbrev pub printed : State → ℕ → List ℕ
+printed state bound = state.output ++ (line_end state.output ++ report state.machine bound)
+
+-- 0 done, 1 a fault, 8 stopped
+abbrev pub status_of : Outcome → ℕ
+status_of Done = 0
+status_of (Fault kind at) = 1
+status_of Stopped = 8

@@ -1,0 +1,72 @@
+// A run that prints as it goes.
+ghost use Rattle.std.specs.Prelude.{◌≡◌, [], ◌∷◌, ◌++◌, ℕ, List, true, false, not, IfOk};
+ghost use Rattle.cdc_num.specs.Decimal.{decimal_bytes};
+ghost use Rattle.cdc_top.specs.Machine.{play, piece_bytes};
+ghost use Rattle.cdc_top.specs.Pieces.{Wrote};
+ghost use Rattle.cdc_top.specs.Replay.{Runs, fresh};
+ghost use Rattle.cdc_top.specs.Report.{ends_line};
+
+use crate::machine::{Machine, Piece};
+use crate::text::write_words;
+use cdc_base::{Sink, SinkFault};
+use cdc_code::Step;
+use cdc_num::decimal;
+
+// Writes a number in decimal, which leaves a line open.
+fn write_number<K: Sink>(out: &mut K, value: i64) -> Result<(), SinkFault>
+    ensures wrote { Wrote (decimal_bytes value) result (K.taken out.old) (K.taken out.new) (K.faults out.old) (K.faults out.new) }
+    ensures opens { (output : List ℕ) → true ≡ not (ends_line (output ++ decimal_bytes value)) }
+{
+    let text = decimal(value);
+    write_words(out, text.as_bytes())
+}
+
+// Writes a line end, behind which no line is open.
+fn write_line<K: Sink>(out: &mut K) -> Result<(), SinkFault>
+    ensures wrote { Wrote (10 ∷ []) result (K.taken out.old) (K.taken out.new) (K.faults out.old) (K.faults out.new) }
+    ensures shuts { (output : List ℕ) → false ≡ not (ends_line (output ++ 10 ∷ [])) }
+{
+    write_words(out, b"\n")
+}
+
+// Writes what an event prints, and says whether a line is open behind it.
+fn write_piece<K: Sink>(out: &mut K, piece: Option<Piece>, is_open: bool) -> Result<bool, SinkFault>
+    ensures wrote { Wrote (piece_bytes piece) result (K.taken out.old) (K.taken out.new) (K.faults out.old) (K.faults out.new) }
+    ensures line { IfOk result (λ opened. (output : List ℕ) → is_open ≡ not (ends_line output) → opened ≡ not (ends_line (output ++ piece_bytes piece))) }
+{
+    match piece {
+        None => Ok(is_open),
+        Some(Piece::Number(value)) => {
+            write_number(out, value)?;
+            Ok(true)
+        }
+        Some(Piece::LineEnd) => {
+            write_line(out)?;
+            Ok(false)
+        }
+    }
+}
+
+/// Applies events until the machine has ended or so many were applied, and writes what they print.
+/// Says whether the last line is open.
+pub fn replay<K: Sink>(
+    machine: &mut Machine,
+    code: &[Step],
+    bound: u64,
+    out: &mut K,
+) -> Result<bool, SinkFault>
+    requires { Runs code.now (fresh machine.old) }
+    ensures machine { IfOk result (λ is_open. machine.new ≡ (play code.now bound (fresh machine.old)).machine) }
+    ensures line { IfOk result (λ is_open. is_open ≡ not (ends_line (play code.now bound (fresh machine.old)).output)) }
+    ensures wrote { Wrote (play code.now bound (fresh machine.old)).output result (K.taken out.old) (K.taken out.new) (K.faults out.old) (K.faults out.new) }
+{
+    let mut is_open = false;
+    for _applied in 0..bound {
+        if machine.ended().is_some() {
+            return Ok(is_open);
+        }
+        let piece = machine.next(code);
+        is_open = write_piece(out, piece, is_open)?;
+    }
+    Ok(is_open)
+}

@@ -1,0 +1,169 @@
+// The top call: one command of a command line.
+ghost use Rattle.std.specs.Prelude.{◌≡◌, ℕ, List, map, string_bytes, MatchOption, IfSome, IsSomeAnd};
+ghost use Rattle.cdc_base.specs.Causes.{Rose};
+ghost use Rattle.cdc_top.specs.Answer.{Usage, Run, command_of, is_name, IsAccepted, IsHeader, ScheduleAnswers, InputAnswers, InputFailed, IsTold, Ended, ToolEnded, IsAnswered, IsCaused};
+ghost use Rattle.cdc_top.specs.Laws.{MeansTheSource, HitsGiveMemory};
+ghost use Rattle.cdc_top.specs.Source.{Source as GivenSource};
+ghost use Rattle.cdc_top.specs.Words.{source_of};
+
+use crate::run::{OUT_OF_MEMORY, run_source, say};
+use crate::schedule::read_schedule;
+use crate::source::{Source, read_source};
+use cdc_base::{ReadRefusal, Sink, Store, read_all};
+use std::alloc::Global;
+
+/// The status after a fault of a file.
+const READ_FAULT: u8 = 5;
+
+/// The bytes that a source may have.
+const SOURCE_LIMIT: u64 = 262_144;
+
+/// The bytes that an input may have.
+const INPUT_LIMIT: u64 = 1_048_576;
+
+/// The bytes that a schedule may have.
+const SCHEDULE_LIMIT: u64 = 16_777_216;
+
+const USAGE: &[u8] =
+    b"usage: cdcc run PROG INPUT SCHED\n       cdcc check PROG\n       cdcc marks PROG\n       cdcc code PROG\n       cdcc seq PROG INPUT\n       cdcc bench N\n";
+
+/// The names of the files of `run`.
+#[derive(Clone, Copy)]
+struct Names<'a> {
+    program: &'a str,
+    input: &'a str,
+    schedule: &'a str,
+}
+
+// A word that is empty or begins with `-` names no file.
+fn names_file(word: &str) -> bool
+    ensures { result ≡ is_name word.now }
+{
+    match word.as_bytes().first() {
+        None => false,
+        Some(b) => *b != b'-',
+    }
+}
+
+// The files of `run`, where the words are that command.
+fn names_of(words: &[String]) -> Option<Names<'_>>
+    ensures { MatchOption result (command_of (map string_bytes words.now) ≡ Usage) (λ n. command_of (map string_bytes words.now) ≡ Run n.program.now n.input.now n.schedule.now) }
+{
+    if words.len() != 4 || words[0].as_str() != "run" {
+        return None;
+    }
+    let names = Names {
+        program: words[1].as_str(),
+        input: words[2].as_str(),
+        schedule: words[3].as_str(),
+    };
+    if names_file(names.program) && names_file(names.input) && names_file(names.schedule) {
+        Some(names)
+    } else {
+        None
+    }
+}
+
+// Reads the schedule and runs the source.
+fn run_schedule<S: Store, K: Sink>(
+    alloc: Global,
+    source: Source<'_>,
+    schedule: &str,
+    store: &mut S,
+    out: &mut K,
+) -> u8
+    ensures { Ended (λ files. IsTold (S.told store.old schedule.now) files.schedule) (λ files a. ScheduleAnswers (source_of source.entry) files a)
+        (λ files. Rose (S.faults store.old schedule.now) (S.faults store.new schedule.now)) result
+        (K.taken out.old) (K.taken out.new) (S.faults store.old) (S.faults store.new) (K.faults out.old) (K.faults out.new) }
+{
+    match read_all(alloc, store, schedule, SCHEDULE_LIMIT) {
+        Err(ReadRefusal::Memory) => OUT_OF_MEMORY,
+        Err(ReadRefusal::Failed) => READ_FAULT,
+        Err(ReadRefusal::TooLong) => say(out, b"refused header line 1\n", 4),
+        Ok(bytes) => match read_schedule(&bytes) {
+            None => say(out, b"refused header line 1\n", 4),
+            Some(bound) => run_source(alloc, source, bound, out),
+        },
+    }
+}
+
+// Reads the input, and then goes on with the schedule.
+fn run_input<S: Store, K: Sink>(
+    alloc: Global,
+    source: Source<'_>,
+    input: &str,
+    schedule: &str,
+    store: &mut S,
+    out: &mut K,
+) -> u8
+    ensures { Ended (λ files. IsTold (S.told store.old input.now) files.input × IsTold (S.told store.old schedule.now) files.schedule) (λ files a. InputAnswers (source_of source.entry) files a)
+        (λ files. InputFailed input.now schedule.now files (S.faults store.old) (S.faults store.new)) result
+        (K.taken out.old) (K.taken out.new) (S.faults store.old) (S.faults store.new) (K.faults out.old) (K.faults out.new) }
+{
+    match read_all(alloc, store, input, INPUT_LIMIT) {
+        Err(ReadRefusal::Memory) => OUT_OF_MEMORY,
+        Err(ReadRefusal::Failed) => READ_FAULT,
+        Err(ReadRefusal::TooLong) => say(out, b"refused input at 1:1\n", 4),
+        Ok(bytes) => {
+            if !bytes.is_empty() {
+                return say(out, b"refused input at 1:1\n", 4);
+            }
+            run_schedule(alloc, source, schedule, store, out)
+        }
+    }
+}
+
+// Reads the program, and then goes on with the input.
+fn run_files<S: Store, K: Sink>(alloc: Global, names: Names<'_>, store: &mut S, out: &mut K) -> u8
+    ensures { ToolEnded (Run names.entry.program.now names.entry.input.now names.entry.schedule.now) (S.told store.old) result
+        (K.taken out.old) (K.taken out.new) (S.faults store.old) (S.faults store.new) (K.faults out.old) (K.faults out.new) }
+{
+    match read_all(alloc, store, names.program, SOURCE_LIMIT) {
+        Err(ReadRefusal::Memory) => OUT_OF_MEMORY,
+        Err(ReadRefusal::Failed) => READ_FAULT,
+        Err(ReadRefusal::TooLong) => say(out, b"refused NotAStatement at line 1\n", 3),
+        Ok(bytes) => match read_source(&bytes) {
+            None => say(out, b"refused NotAStatement at line 1\n", 3),
+            Some(source) => run_input(alloc, source, names.input, names.schedule, store, out),
+        },
+    }
+}
+
+// Carries out the command of the words.
+fn carry_out<S: Store, K: Sink>(alloc: Global, words: &[String], store: &mut S, out: &mut K) -> u8
+    ensures { ToolEnded (command_of (map string_bytes words.now)) (S.told store.old) result
+        (K.taken out.old) (K.taken out.new) (S.faults store.old) (S.faults store.new) (K.faults out.old) (K.faults out.new) }
+{
+    match names_of(words) {
+        None => say(out, USAGE, 2),
+        Some(names) => run_files(alloc, names, store, out),
+    }
+}
+
+/// Carries out one command: `words` are the words of the command line behind the program's name.
+/// It reads files from `store`, writes what it prints to `out`, and gives the status.
+///
+/// | Status | Comes |
+/// |---|---|
+/// | 0 | the run is done |
+/// | 1 | the run ended with a fault |
+/// | 2 | the words are no command |
+/// | 3 | the program is refused |
+/// | 4 | the input or the schedule is refused |
+/// | 5 | a file could not be read |
+/// | 6 | the sink failed |
+/// | 7 | memory ran out, and nothing was written |
+/// | 8 | the run was stopped at its bound |
+pub fn run_tool<S: Store, K: Sink>(
+    alloc: Global,
+    words: &Vec<String>,
+    store: &mut S,
+    out: &mut K,
+) -> u8
+    ensures bytes_and_status { IsAnswered (command_of (map string_bytes words.now.items)) (S.told store.old) result (K.taken out.old) (K.taken out.new) }
+    ensures meaning { MeansTheSource }
+    ensures hits { HitsGiveMemory }
+    ensures causes { IsCaused (command_of (map string_bytes words.now.items)) (S.told store.old) result (S.faults store.old) (S.faults store.new) (K.faults out.old) (K.faults out.new) }
+{
+    carry_out(alloc, words, store, out)
+}
