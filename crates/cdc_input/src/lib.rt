@@ -3,5 +3,7 @@
 
 mod file;
 mod line;
+#[cfg(test)]
+mod tests;
 
 pub use file::{InputRecords, InputRefusal, records};
