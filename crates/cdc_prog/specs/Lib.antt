@@ -1,0 +1,11 @@
+pub mod Plain
+pub mod Translation
+pub mod Value
+pub mod Data
+pub mod Input
+pub mod Process
+pub mod Expressions
+pub mod Statements
+pub mod Units
+pub mod Alone
+pub mod InOrder
