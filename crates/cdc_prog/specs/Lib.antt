@@ -9,3 +9,7 @@ pub mod Statements
 pub mod Units
 pub mod Alone
 pub mod InOrder
+pub mod Decimal
+pub mod Meaning
+pub mod Cost
+pub mod Examples

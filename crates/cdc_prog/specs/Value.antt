@@ -70,7 +70,7 @@ at_least_zero (negsuc n) = 0
 -- how often a loop is carried out: max((to - from + by) / by, 0) over whole numbers (section 8.1.4.4.1)
 abbrev pub trips : (from to by : ℤ) → Got ℕ
 trips from to (pos zero) = Err ZeroStep
-trips from to by = Ok (at_least_zero (int_div (to -ℤ from +ℤ by) by))
+trips from to by = Ok (at_least_zero (int_div ((to -ℤ from) +ℤ by) by))
 
 -- a DOALL has at most 2^20 iterations
 abbrev pub few : ℕ → Got ℕ
