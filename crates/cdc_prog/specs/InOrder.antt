@@ -1,9 +1,9 @@
 -- A whole program in order on one store: a fork runs its iterations one after another, and the first fault ends it.
-use Rattle.std.specs.Prelude.{ℕ, zero, suc, ◌+◌, List, [], ◌∷◌, Option, Some, None}
+use Rattle.std.specs.Prelude.{ℕ, zero, suc, List, [], ◌∷◌, ◌++◌, Option, Some, None}
 use Rattle.cdc_prog.specs.Value.{Fault}
 use Rattle.cdc_prog.specs.Data.{Store, put}
 use Rattle.cdc_prog.specs.Process.{Piece, Process, Load, Save, Say, Tick, Fork, Join, Halt, Fail}
-use Rattle.cdc_prog.specs.Alone.{left, ending, ticks}
+use Rattle.cdc_prog.specs.Alone.{left, said, ending}
 
 pub data End : Type 0 where
   Done : End
@@ -35,13 +35,19 @@ abbrev pub choose : {A B : Type 0} → Option A → (A → B) → B → B
 choose None f b = b
 choose (Some a) f b = f a
 
+-- what the iterations below n print, up to the first fault
+abbrev pub printed : ℕ → (ℕ → Process) → Store → List Piece
+printed zero body s = []
+printed (suc n) body s = printed n body s ++ choose (first_fault n body s) (λ f. []) (said (body n) (after n body s))
+
 -- the pieces that are printed
 abbrev pub output : Process → Store → List Piece
 output (Load site word next) s = output (next (s word)) s
 output (Save site word v next) s = output next (put s word v)
 output (Say piece next) s = piece ∷ output next s
 output (Tick next) s = output next s
-output (Fork number count from by body next) s = choose (first_fault count body s) (λ f. []) (output next (after count body s))
+output (Fork number count from by body next) s =
+    printed count body s ++ choose (first_fault count body s) (λ f. []) (output next (after count body s))
 output Join s = []
 output Halt s = []
 output (Fail kind line) s = []

@@ -13,3 +13,4 @@ pub mod Decimal
 pub mod Meaning
 pub mod Cost
 pub mod Examples
+pub mod Laws

@@ -1,0 +1,75 @@
+-- What the definitions say of one another.
+use Rattle.std.specs.Prelude.{◌≡◌, ◌≢◌, ℕ, ◌+◌, ◌*◌, ◌<◌, ℤ, List, [], ◌∷◌, ◌++◌, Ok, IsTrue}
+use Rattle.cdc_prog.specs.declared.expr.UnOp.{UnOp}
+use Rattle.cdc_prog.specs.declared.expr.BinOp.{BinOp}
+use Rattle.cdc_prog.specs.declared.program.Dim.{Dim}
+use Rattle.cdc_prog.specs.Value.{is_value, unary, binary}
+use Rattle.cdc_prog.specs.Data.{Store, put, element}
+use Rattle.cdc_prog.specs.Decimal.{decimal_bytes, IsDecimalOf}
+use Rattle.cdc_prog.specs.Process.{Process}
+use Rattle.cdc_prog.specs.Alone.{Access, Read, Write, accesses, left, said, ending, ticks, Touches, Writes}
+use Rattle.cdc_prog.specs.InOrder.{output, ends, after}
+use Rattle.cdc_prog.specs.Cost.{cost, full_cost}
+
+-- ---- values
+-- operators give values, and a value is printed as its decimal text
+pub record Values : Type 0 where
+  pub unary : (op : UnOp) (a v : ℤ) → IsTrue (is_value a) → unary op a ≡ Ok v → IsTrue (is_value v)
+  pub binary : (op : BinOp) (a b v : ℤ) → IsTrue (is_value a) → IsTrue (is_value b) → binary op a b ≡ Ok v → IsTrue (is_value v)
+  pub text : (z : ℤ) → IsTrue (is_value z) → IsDecimalOf z (decimal_bytes z)
+
+-- ---- elements
+-- the product of the extents
+abbrev pub size_of : List Dim → ℕ
+size_of [] = 1
+size_of (d ∷ ds) = d.extent * size_of ds
+
+-- an element has a number below the product of the extents, and no other element has it
+pub record Elements : Type 0 where
+  pub within : (dims : List Dim) (subs : List ℤ) (n : ℕ) → element dims subs ≡ Ok n → n < size_of dims
+  pub distinct : (dims : List Dim) (subs others : List ℤ) (n : ℕ) → element dims subs ≡ Ok n → element dims others ≡ Ok n → subs ≡ others
+
+-- ---- a process alone
+-- the store with the writes of a list of accesses, in order
+abbrev pub written : List Access → Store → Store
+written [] s = s
+written (Read site w v ∷ rest) s = written rest s
+written (Write site w v ∷ rest) s = written rest (put s w v)
+
+-- each read has the value that its word has then
+abbrev pub ReadsRight : List Access → Store → Type 0
+ReadsRight [] s = Unit {0}
+ReadsRight (Read site w v ∷ rest) s = (v ≡ s w) × ReadsRight rest s
+ReadsRight (Write site w v ∷ rest) s = ReadsRight rest (put s w v)
+
+-- a process does the same on another store, and leaves each word alike that was alike
+pub record DoesAlike (p : Process) (s t : Store) : Type 0 where
+  pub accesses : accesses p t ≡ accesses p s
+  pub said : said p t ≡ said p s
+  pub ending : ending p t ≡ ending p s
+  pub ticks : ticks p t ≡ ticks p s
+  pub left : (w : ℕ) → t w ≡ s w → left p t w ≡ left p s w
+
+-- the accesses tell all that a process has to do with its store
+pub record Alone : Type 0 where
+  pub reads : (p : Process) (s : Store) → ReadsRight (accesses p s) s
+  pub left : (p : Process) (s : Store) → left p s ≡ written (accesses p s) s
+  pub alike : (p : Process) (s t : Store) → ((w : ℕ) → Touches (accesses p s) w → t w ≡ s w) → DoesAlike p s t
+
+-- ---- in order
+-- a program in order is its first task alone, and then the rest from the store that this task left
+pub record InOrder : Type 0 where
+  pub output : (p : Process) (s : Store) → output p s ≡ said p s ++ output (ending p s) (left p s)
+  pub ends : (p : Process) (s : Store) → ends p s ≡ ends (ending p s) (left p s)
+  pub cost : (p : Process) (s : Store) → cost p s ≡ ticks p s + cost (ending p s) (left p s)
+  pub full_cost : (p : Process) (s : Store) → full_cost p s ≡ ticks p s + full_cost (ending p s) (left p s)
+
+-- ---- iterations
+-- no two different iterations, each alone on the store, access one word with a write among the two
+abbrev pub AreApart : ℕ → (ℕ → Process) → Store → Type 0
+AreApart n body s =
+    (i j w : ℕ) → i < n → j < n → i ≢ j → Writes (accesses (body i) s) w → Touches (accesses (body j) s) w → ⊥
+
+-- in order on one store, iterations that are apart do what each does alone on the opening store
+abbrev pub ApartInOrder : Type 0
+ApartInOrder = (n k : ℕ) (body : ℕ → Process) (s : Store) → AreApart n body s → k < n → DoesAlike (body k) s (after k body s)
