@@ -3,22 +3,22 @@ use Rattle.std.specs.Prelude.{◌≡◌, ℕ, ℤ, pos, List, [], ◌∷◌, ref
 use Rattle.std.specs.Fmt.{digits}
 use Rattle.cdc_prog.specs.declared.program.FaultKind.TheVariants.{Overflow, InputEnded, Subscript}
 use Rattle.cdc_prog.specs.Meaning.{cost, full_cost}
-use Rattle.cdc_prog.specs.InOrder.{Done, Faulted}
-use Rattle.cdc_prog.specs.Examples.{Prints, one, signs, largest, records, share, own, least, calls}
+use Rattle.cdc_prog.specs.InOrder.{Done}
+use Rattle.cdc_prog.specs.Examples.{Prints, fault, one, signs, largest, records, share, own, least, calls}
 
 pub one_prints : Prints one [] (codes "6" ∷ []) Done
 unfolding digits
 one_prints = refl
 
-pub signs_print : Prints signs [] (codes "-1 -3 -3 -6" ∷ codes "-9223372036854775808" ∷ []) (Faulted (record { kind = Overflow; line = 5 }))
+pub signs_print : Prints signs [] (codes "-1 -3 -3 -6" ∷ codes "-9223372036854775808" ∷ []) (fault Overflow 5)
 unfolding digits
 signs_print = refl
 
-pub largest_prints : Prints largest [] (codes "9223372036854775806" ∷ codes "9223372036854775807" ∷ []) (Faulted (record { kind = Overflow; line = 2 }))
+pub largest_prints : Prints largest [] (codes "9223372036854775806" ∷ codes "9223372036854775807" ∷ []) (fault Overflow 2)
 unfolding digits
 largest_prints = refl
 
-pub records_print : Prints records ((pos 1 ∷ []) ∷ (pos 2 ∷ pos 99 ∷ []) ∷ (pos 3 ∷ pos 4 ∷ []) ∷ []) (codes "1 2 3" ∷ []) (Faulted (record { kind = InputEnded; line = 5 }))
+pub records_print : Prints records ((pos 1 ∷ []) ∷ (pos 2 ∷ pos 99 ∷ []) ∷ (pos 3 ∷ pos 4 ∷ []) ∷ []) (codes "1 2 3" ∷ []) (fault InputEnded 5)
 unfolding digits
 records_print = refl
 
@@ -30,7 +30,7 @@ pub own_prints : Prints own [] (codes "2 1" ∷ []) Done
 unfolding digits
 own_prints = refl
 
-pub least_prints : Prints least [] (codes "a" ∷ []) (Faulted (record { kind = Subscript; line = 5 }))
+pub least_prints : Prints least [] (codes "a" ∷ []) (fault Subscript 5)
 unfolding digits
 least_prints = refl
 

@@ -1,1 +1,6 @@
 pub mod Examples
+pub mod Alone
+pub mod Order
+pub mod InOrder
+pub mod Values
+pub mod Numbers

@@ -6,12 +6,13 @@ use Rattle.cdc_prog.specs.declared.expr.Var.{Var}
 use Rattle.cdc_prog.specs.declared.expr.Var.TheVariants.{Object, Dummy, Slot}
 use Rattle.cdc_prog.specs.declared.expr.UnOp.TheVariants.{Neg, Abs}
 use Rattle.cdc_prog.specs.declared.expr.BinOp.TheVariants.{Add, Sub, Mul, Div, Mod, Eq}
+use Rattle.cdc_prog.specs.declared.program.FaultKind.{FaultKind}
 use Rattle.cdc_prog.specs.declared.program.Dim.{Dim}
 use Rattle.cdc_prog.specs.declared.program.Dummy.{Dummy as DummyOf}
 use Rattle.cdc_prog.specs.declared.program.Object.{Object as ObjectOf}
 use Rattle.cdc_prog.specs.Plain.{Expr, Number, Scalar, Element, Un, Bin, Empty, More, Target, Item, Text, Value, Actual, Whole, Copy, Control, Stmt, Skip, Seq, Assign, If, Arm, Do, Doall, Call, Print, Read, ProgramUnit, Program}
 use Rattle.cdc_prog.specs.Input.{Input}
-use Rattle.cdc_prog.specs.InOrder.{End}
+use Rattle.cdc_prog.specs.InOrder.{End, Faulted}
 use Rattle.cdc_prog.specs.Meaning.{meaning}
 
 -- each line with the LF that ends it
@@ -22,6 +23,9 @@ lines (l ∷ ls) = l ++ (10 ∷ []) ++ lines ls
 -- the lines that a program prints in order on one store, and its end
 abbrev pub Prints : Program → Input → List (List ℕ) → End → Type 0
 Prints p records ls end = meaning p records ≡ record { bytes = lines ls; end = end }
+
+abbrev pub fault : FaultKind → (line : ℕ) → End
+fault kind line = Faulted (record { kind = kind; line = line })
 
 -- ---- how the trees are written here. Their references have no place in a source
 abbrev pub ref : ℕ → Var → Ref

@@ -1,0 +1,44 @@
+// Laws of the definitions, each on a function that does nothing.
+ghost use Rattle.std.specs.Prelude.{◌≡◌, ℕ, ℤ, pos, List, [], ◌∷◌, codes};
+ghost use Rattle.cdc_prog.specs.declared.program.FaultKind.TheVariants.{Overflow, Subscript, InputEnded};
+ghost use Rattle.cdc_prog.specs.InOrder.{Done};
+ghost use Rattle.cdc_prog.specs.Meaning.{cost, full_cost};
+ghost use Rattle.cdc_prog.specs.Laws.{Values, Elements, Alone, InOrder, ApartInOrder};
+ghost use Rattle.cdc_prog.specs.Examples.{Prints, fault, one, signs, largest, records, share, own, least, calls};
+
+/// Operators give values, and a value is printed as its decimal text.
+pub fn values()
+    ensures { Values }
+{}
+
+/// Each element of an array has a number of its own below the product of the extents.
+pub fn elements()
+    ensures { Elements }
+{}
+
+/// What a task does alone on a store is told by its accesses, and depends on the words that it touches alone.
+pub fn tasks_alone()
+    ensures { Alone }
+{}
+
+/// A program in order is its tasks in order, each alone on the store that the one before it left. Iterations that do
+/// not meet do in order what each does on the store on which the loop began.
+pub fn tasks_in_order()
+    ensures tasks { InOrder }
+    ensures iterations { ApartInOrder }
+{}
+
+/// What some programs print, how they end, and what they cost.
+pub fn examples()
+    ensures one { Prints one [] (codes "6" ∷ []) Done }
+    ensures signs { Prints signs [] (codes "-1 -3 -3 -6" ∷ codes "-9223372036854775808" ∷ []) (fault Overflow 5) }
+    ensures largest { Prints largest [] (codes "9223372036854775806" ∷ codes "9223372036854775807" ∷ []) (fault Overflow 2) }
+    ensures records { Prints records ((pos 1 ∷ []) ∷ (pos 2 ∷ pos 99 ∷ []) ∷ (pos 3 ∷ pos 4 ∷ []) ∷ []) (codes "1 2 3" ∷ []) (fault InputEnded 5) }
+    ensures share { Prints share [] (codes "2 3 4" ∷ []) Done }
+    ensures own { Prints own [] (codes "2 1" ∷ []) Done }
+    ensures least { Prints least [] (codes "a" ∷ []) (fault Subscript 5) }
+    ensures calls { Prints calls [] (codes "1 3" ∷ codes "2 7" ∷ codes "3 7 7" ∷ []) Done }
+    ensures cost { cost one [] ≡ 8 }
+    ensures least_cost { cost least [] ≡ 27 }
+    ensures least_full_cost { full_cost least [] ≡ 54 }
+{}
