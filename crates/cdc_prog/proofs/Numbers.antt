@@ -1,6 +1,6 @@
 -- Element numbers are below the product of the extents, and different for different elements.
 use Rattle.std.proofs.Common.{◌≡◌, ℕ, zero, suc, ◌+◌, ◌*◌, ◌/◌, ◌%◌, ◌<◌, ◌≤◌, Bool, true, false, if◌then◌else◌, List, [], ◌∷◌, ℤ, pos, negsuc, ◌-ℤ◌, Ok, Err, refl, sym, ap, ap₂, ◌∙◌, subst, arith}
-use Rattle.std.specs.Prelude.{nat_lt}
+use Rattle.std.specs.Prelude.{nat_lt, IfOk}
 use Rattle.std.proofs.Math.Nat.{mul_comm, mul_assoc, add-mul, mul-le-mul_left, mul-le-mul_right}
 use Rattle.std.proofs.lemmas.Nat.{div-mul-add, mod-mul-add}
 use Rattle.std.proofs.lemmas.Bool.{ltb-true}
@@ -50,8 +50,7 @@ number_from stride (d ∷ ds) (x ∷ xs) m e =
     let p = position_got (position d x) (λ n. with_position (element_from (stride * d.extent) ds xs) (λ l. Ok (n * stride + l))) m e in
     let q = position_got (element_from (stride * d.extent) ds xs) (λ l. Ok (p.0 * stride + l)) m p.2 in
     let k = number_from (stride * d.extent) ds xs q.0 q.1 in
-    let same : p.0 * stride + q.0 ≡ m = let h = q.2 in cc in
-    (
+    let same : p.0 * stride + q.0 ≡ m = let h = q.2 in cc in (
       k.0 * d.extent + p.0,
       ap (λ g. with_position g (λ n. with_position (number ds xs) (λ l. Ok (l * d.extent + n)))) p.1 ∙ ap (λ g. with_position g (λ l. Ok (l * d.extent + p.0))) k.1,
       sym same ∙ ap (λ l. p.0 * stride + l) k.2 ∙ scaled k.0 d.extent p.0 stride,
@@ -106,3 +105,34 @@ element_room stride dims subs m e =
     let k = number_from stride dims subs m e in
     let all : suc k.0 * stride ≤ size_of dims * stride = mul-le-mul_right stride (omega (arith, number_below dims subs k.0 k.1)) in
     omega (arith, k.2, all, add-mul 1 k.0 stride, mul_comm stride (size_of dims))
+
+factor_some : (a b : ℕ) → 0 < a * b → 0 < b
+factor_some a zero h = absurd (omega (arith, h))
+factor_some a (suc b) h = omega arith
+
+-- what the sums of an array's element number stay below
+pub record HasRoom (step : ℕ) (d : Dim) (ds : List Dim) (p : ℕ) : Type 0 where
+  pub stride : step * d.extent ≤ step * (d.extent * size_of ds)
+  pub place : p * step ≤ step * d.extent
+  pub both : (subs : List ℤ) (m : ℕ) → element_from (step * d.extent) ds subs ≡ Ok m → p * step + m ≤ step * (d.extent * size_of ds)
+
+pub has_room : (stride : ℕ) (d : Dim) (ds : List Dim) (x : ℤ) (p : ℕ) → 0 < stride * (d.extent * size_of ds) → position d x ≡ Ok p → HasRoom stride d ds p
+has_room stride d ds x p some e =
+    let less : p < d.extent = (below_got d.extent (x -ℤ d.low) p e).0 in
+    let rest : 0 < size_of ds = factor_some d.extent (size_of ds) (factor_some stride (d.extent * size_of ds) some) in
+    let whole : d.extent * 1 ≤ d.extent * size_of ds = mul-le-mul_left d.extent (omega (arith, rest)) in
+    let place : stride * p ≤ stride * d.extent = mul-le-mul_left stride (omega (arith, less)) in
+    record {
+      stride = mul-le-mul_left stride (omega (arith, whole));
+      place = omega (arith, place, mul_comm p stride);
+      both = λ subs m f. omega (arith, place, mul_comm p stride, element_room (stride * d.extent) ds subs m f, mul_assoc stride d.extent (size_of ds));
+    }
+
+-- the same of a list of dimensions that is told by its first and its rest
+pub has_room_in : (stride : ℕ) (dims : List Dim) (d : Dim) (ds : List Dim) (x : ℤ) (p : ℕ) → dims ≡ d ∷ ds → 0 < stride * size_of dims → Ok p ≡ position d x → HasRoom stride d ds p
+has_room_in stride dims d ds x p is some e =
+    has_room stride d ds x p (subst (λ l. 0 < stride * size_of l) is some) (sym e)
+
+pub got_within : (dims : List Dim) (subs : List ℤ) (r : Got ℕ) → r ≡ element dims subs → IfOk r (λ n. n < size_of dims)
+got_within dims subs (Ok n) e = element_within dims subs n (sym e)
+got_within dims subs (Err kind) e = tt

@@ -118,9 +118,9 @@ abbrev pub share : Program
 share =
     let a = Object 0 in let b = Object 1 in
     program (main_unit (
-      doall 3 1 (num 1) (num 4) (set_at 4 2 a index (Bin Add (at 1 a index) index) ∷ [])
-      ∷ doall 6 2 (num 1) (num 3) (set_at 7 4 b index (at 3 a (Bin Add index (num 1))) ∷ [])
-      ∷ print 9 (at 5 b (num 1) ∷ at 6 b (num 2) ∷ at 7 b (num 3) ∷ []) ∷ []) ∷ [])
+    doall 3 1 (num 1) (num 4) (set_at 4 2 a index (Bin Add (at 1 a index) index) ∷ [])
+    ∷ doall 6 2 (num 1) (num 3) (set_at 7 4 b index (at 3 a (Bin Add index (num 1))) ∷ [])
+    ∷ print 9 (at 5 b (num 1) ∷ at 6 b (num 2) ∷ at 7 b (num 3) ∷ []) ∷ []) ∷ [])
     (array 4 0 ∷ array 4 4 ∷ []) []
 
 -- DOALL I = 1, 2; A(I) = A(I) + I; END DOALL; DOALL I = 1, 2; B(I) = A(3 - I); END DOALL; PRINT *, B(1), B(2)
@@ -128,9 +128,9 @@ abbrev pub own : Program
 own =
     let a = Object 0 in let b = Object 1 in
     program (main_unit (
-      doall 3 1 (num 1) (num 2) (set_at 4 2 a index (Bin Add (at 1 a index) index) ∷ [])
-      ∷ doall 6 2 (num 1) (num 2) (set_at 7 4 b index (at 3 a (Bin Sub (num 3) index)) ∷ [])
-      ∷ print 9 (at 5 b (num 1) ∷ at 6 b (num 2) ∷ []) ∷ []) ∷ [])
+    doall 3 1 (num 1) (num 2) (set_at 4 2 a index (Bin Add (at 1 a index) index) ∷ [])
+    ∷ doall 6 2 (num 1) (num 2) (set_at 7 4 b index (at 3 a (Bin Sub (num 3) index)) ∷ [])
+    ∷ print 9 (at 5 b (num 1) ∷ at 6 b (num 2) ∷ []) ∷ []) ∷ [])
     (array 2 0 ∷ array 2 2 ∷ []) []
 
 -- PRINT *, 'a'; DOALL I = 1, 4; IF (I == 2) A(I + 9) = 1; IF (I == 4) A(I) = 9223372036854775807 + I; END DOALL
@@ -138,10 +138,10 @@ abbrev pub least : Program
 least =
     let a = Object 0 in
     program (main_unit (
-      Print 3 (Text 0 ∷ [])
-      ∷ doall 4 1 (num 1) (num 4) (
-        only_if 5 (Bin Eq index (num 2)) (set_at 5 1 a (Bin Add index (num 9)) (num 1))
-        ∷ only_if 6 (Bin Eq index (num 4)) (set_at 6 2 a index (Bin Add (num 9223372036854775807) index)) ∷ []) ∷ []) ∷ [])
+    Print 3 (Text 0 ∷ [])
+    ∷ doall 4 1 (num 1) (num 4) (
+    only_if 5 (Bin Eq index (num 2)) (set_at 5 1 a (Bin Add index (num 9)) (num 1))
+    ∷ only_if 6 (Bin Eq index (num 4)) (set_at 6 2 a index (Bin Add (num 9223372036854775807) index)) ∷ []) ∷ []) ∷ [])
     (array 4 0 ∷ []) (codes "a" ∷ [])
 
 -- CALL S(A, 1 + 2); N = 7; CALL S(A, N); PRINT *, A(1), A(2), N; and SUBROUTINE S(X, K), which keeps L: L = L + 1; X(L) = K; PRINT *, L, K
@@ -149,13 +149,17 @@ abbrev pub calls : Program
 calls =
     let a = Object 0 in let n = Object 1 in let hidden = Object 2 in let l = Object 3 in let x = Dummy 0 in let k = Dummy 1 in
     program (
-      main_unit (
-        Call 2 1 (Whole a ∷ Copy (ref 1 hidden) (Bin Add (num 1) (num 2)) ∷ [])
-        ∷ set 3 2 n (num 7)
-        ∷ Call 4 1 (Whole a ∷ Whole n ∷ [])
-        ∷ print 5 (at 3 a (num 1) ∷ at 4 a (num 2) ∷ var 5 n ∷ []) ∷ [])
-      ∷ record { name = []; dummies = record { name = []; dims = one_to 2; written = false } ∷ record { name = []; dims = []; written = false } ∷ []; body = in_turn (
-        set 8 7 l (Bin Add (var 6 l) (num 1))
-        ∷ set_at 9 10 x (var 8 l) (var 9 k)
-        ∷ print 10 (var 11 l ∷ var 12 k ∷ []) ∷ []) } ∷ [])
+    main_unit (
+    Call 2 1 (Whole a ∷ Copy (ref 1 hidden) (Bin Add (num 1) (num 2)) ∷ [])
+    ∷ set 3 2 n (num 7)
+    ∷ Call 4 1 (Whole a ∷ Whole n ∷ [])
+    ∷ print 5 (at 3 a (num 1) ∷ at 4 a (num 2) ∷ var 5 n ∷ []) ∷ [])
+    ∷ record {
+      name = [];
+      dummies = record { name = []; dims = one_to 2; written = false } ∷ record { name = []; dims = []; written = false } ∷ [];
+      body = in_turn (
+          set 8 7 l (Bin Add (var 6 l) (num 1))
+          ∷ set_at 9 10 x (var 8 l) (var 9 k)
+          ∷ print 10 (var 11 l ∷ var 12 k ∷ []) ∷ []);
+    } ∷ [])
     (array 2 0 ∷ scalar 2 ∷ scalar 3 ∷ scalar 4 ∷ []) []
