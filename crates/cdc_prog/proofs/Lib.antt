@@ -4,3 +4,5 @@ pub mod Order
 pub mod InOrder
 pub mod Values
 pub mod Numbers
+pub mod Bodies
+pub mod Translated

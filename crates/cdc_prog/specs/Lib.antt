@@ -1,5 +1,6 @@
 pub mod Plain
 pub mod Translation
+pub mod Translates
 pub mod Value
 pub mod Data
 pub mod Input

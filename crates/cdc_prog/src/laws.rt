@@ -3,8 +3,14 @@ ghost use Rattle.std.specs.Prelude.{◌≡◌, ℕ, ℤ, pos, List, [], ◌∷�
 ghost use Rattle.cdc_prog.specs.declared.program.FaultKind.TheVariants.{Overflow, Subscript, InputEnded};
 ghost use Rattle.cdc_prog.specs.InOrder.{Done};
 ghost use Rattle.cdc_prog.specs.Meaning.{cost, full_cost};
-ghost use Rattle.cdc_prog.specs.Laws.{Values, Elements, Alone, InOrder, ApartInOrder};
+ghost use Rattle.cdc_prog.specs.Translates.{Translates};
+ghost use Rattle.cdc_prog.specs.Laws.{Values, Elements, Alone, InOrder, ApartInOrder, Bodies};
 ghost use Rattle.cdc_prog.specs.Examples.{Prints, fault, one, signs, largest, records, share, own, least, calls};
+
+/// The plain tree of a node is the node over the plain trees of its parts.
+pub fn translation()
+    ensures { Translates }
+{}
 
 /// Operators give values, and a value is printed as its decimal text.
 pub fn values()
@@ -26,6 +32,11 @@ pub fn tasks_alone()
 pub fn tasks_in_order()
     ensures tasks { InOrder }
     ensures iterations { ApartInOrder }
+{}
+
+/// An iteration prints nothing, and ends in its join or in a fault. A program without DOALL is one task.
+pub fn bodies()
+    ensures { Bodies }
 {}
 
 /// What some programs print, how they end, and what they cost.
