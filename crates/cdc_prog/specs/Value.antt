@@ -21,10 +21,11 @@ abbrev pub is_value : ℤ → Bool
 is_value (pos n) = nat_lt n (2 ^ 63)
 is_value (negsuc n) = nat_lt n (2 ^ 63)
 
+-- a result outside the range is the fault overflow
 abbrev pub exact : ℤ → Got ℤ
 exact z = if is_value z then Ok z else Err Overflow
 
--- division truncates toward zero (ISO/IEC 1539:1991, section 7.1.6.1.1)
+-- division truncates toward zero (ISO/IEC 1539:1991, section 7.2.1.1)
 abbrev pub quotient : ℤ → ℤ → Got ℤ
 quotient a (pos zero) = Err ZeroDivisor
 quotient a b = exact (int_div a b)
@@ -34,18 +35,20 @@ abbrev pub remainder : ℤ → ℤ → Got ℤ
 remainder a (pos zero) = Err ZeroDivisor
 remainder a b = Ok (a -ℤ (int_div a b *ℤ b))
 
--- a truth value is 1 or 0
+-- relations and connectives give 1 or 0
 abbrev pub truth : Bool → ℤ
 truth b = if b then pos 1 else pos 0
 
 abbrev pub is_zero : ℤ → Bool
 is_zero z = int_le z (pos 0) && int_le (pos 0) z
 
+-- ABS and unary minus (sections 13.13.1 and 7.2.1); .NOT. gives 1 for 0 and 0 for 1
 abbrev pub unary : UnOp → ℤ → Got ℤ
 unary Neg a = exact (neg_ℤ a)
 unary Abs a = exact (pos (nat_abs a))
 unary Not a = Ok (truth (is_zero a))
 
+-- both sides of .AND. and .OR. are evaluated, so they are operators as the others are (sections 7.2.1, 7.2.3 and 7.2.4)
 abbrev pub binary : BinOp → ℤ → ℤ → Got ℤ
 binary Add a b = exact (a +ℤ b)
 binary Sub a b = exact (a -ℤ b)
