@@ -2,9 +2,10 @@
 use Rattle.std.proofs.Common.{◌≡◌, ℕ, zero, suc, ◌<◌, ◌≤◌, ◌⊎◌, inl, inr, refl, ◌∙◌, subst, arith}
 use Rattle.cdc_prog.specs.Data.{Store}
 use Rattle.cdc_prog.specs.Process.{Process}
-use Rattle.cdc_prog.specs.Alone.{Touches, Writes, accesses, left}
+use Rattle.cdc_prog.specs.Alone.{accesses, left}
+use Rattle.cdc_prog.specs.Apart.{Touches, Writes, AreApart}
 use Rattle.cdc_prog.specs.InOrder.{after}
-use Rattle.cdc_prog.specs.Laws.{DoesAlike, AreApart}
+use Rattle.cdc_prog.specs.Laws.{DoesAlike}
 use Rattle.cdc_prog.proofs.Alone.{unwritten, alike}
 
 module _ (n : ℕ) (body : ℕ → Process) (s : Store) (apart : AreApart n body s) where

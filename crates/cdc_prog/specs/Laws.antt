@@ -13,7 +13,8 @@ use Rattle.cdc_prog.specs.Process.{Process, Load, Save, Say, Tick, Fork, Join, H
 use Rattle.cdc_prog.specs.Expressions.{Surroundings}
 use Rattle.cdc_prog.specs.Statements.{Runs, stmt}
 use Rattle.cdc_prog.specs.Units.{body_of, process_of}
-use Rattle.cdc_prog.specs.Alone.{Access, Read, Write, accesses, left, said, ending, ticks, Touches, Writes}
+use Rattle.cdc_prog.specs.Alone.{Access, Read, Write, accesses, left, said, ending, ticks}
+use Rattle.cdc_prog.specs.Apart.{Touches, AreApart}
 use Rattle.cdc_prog.specs.InOrder.{output, ends, after}
 use Rattle.cdc_prog.specs.Cost.{cost, full_cost}
 
@@ -71,11 +72,6 @@ pub record InOrder : Type 0 where
   pub full_cost : (p : Process) (s : Store) → full_cost p s ≡ ticks p s + full_cost (ending p s) (left p s)
 
 -- ---- iterations
--- no two different iterations, each alone on the store, access one word with a write among the two
-abbrev pub AreApart : ℕ → (ℕ → Process) → Store → Type 0
-AreApart n body s =
-    (i j w : ℕ) → i < n → j < n → i ≢ j → Writes (accesses (body i) s) w → Touches (accesses (body j) s) w → ⊥
-
 -- in order on one store, iterations that are apart do what each does alone on the opening store
 abbrev pub ApartInOrder : Type 0
 ApartInOrder = (n k : ℕ) (body : ℕ → Process) (s : Store) → AreApart n body s → k < n → DoesAlike (body k) s (after k body s)

@@ -5,10 +5,12 @@ pub mod Value
 pub mod Data
 pub mod Input
 pub mod Process
+pub mod Marked
 pub mod Expressions
 pub mod Statements
 pub mod Units
 pub mod Alone
+pub mod Apart
 pub mod InOrder
 pub mod Decimal
 pub mod Meaning
