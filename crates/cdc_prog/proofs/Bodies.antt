@@ -15,7 +15,7 @@ use Rattle.cdc_prog.specs.Statements.{Runs, controls, raise, turns, branch, gap,
 use Rattle.cdc_prog.specs.Units.{binding_of, body_of, unit, process_of}
 use Rattle.cdc_prog.specs.Alone.{said, ending}
 use Rattle.cdc_prog.specs.InOrder.{output}
-use Rattle.cdc_prog.specs.Laws.{ComesOnlyTo, HasOnly}
+use Rattle.cdc_prog.specs.Bodies.{ComesOnlyTo, HasOnly}
 
 module _ (say fork halt : Type 0) where
   abbrev Fine : Process → Type 0

@@ -40,6 +40,11 @@ element_from stride _ _ = Err Subscript
 abbrev pub element : List Dim → List ℤ → Got ℕ
 element dims subs = element_from 1 dims subs
 
+-- the number of an array's elements
+abbrev pub size_of : List Dim → ℕ
+size_of [] = 1
+size_of (d ∷ ds) = d.extent * size_of ds
+
 -- what the variables of a unit stand for: an object is one of the program's, a dummy has its own dimensions and stands for the object that is bound to it
 pub record Binding : Type 0 where
   pub objects : List Object

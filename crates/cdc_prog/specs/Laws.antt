@@ -1,18 +1,19 @@
 -- What the definitions say of one another.
-use Rattle.std.specs.Prelude.{◌≡◌, ◌≢◌, ◌⊎◌, ℕ, ◌+◌, ◌*◌, ◌<◌, ℤ, List, [], ◌∷◌, ◌++◌, Ok, IsTrue}
+use Rattle.std.specs.Prelude.{◌≡◌, ◌≢◌, ◌⊎◌, ℕ, ◌+◌, ◌<◌, ℤ, List, [], ◌∷◌, ◌++◌, Ok, IsTrue}
 use Rattle.cdc_prog.specs.declared.expr.UnOp.{UnOp}
 use Rattle.cdc_prog.specs.declared.expr.BinOp.{BinOp}
 use Rattle.cdc_prog.specs.declared.program.Dim.{Dim}
 use Rattle.cdc_prog.specs.Value.{is_value, unary, binary}
 use Rattle.cdc_prog.specs.declared.program.FaultKind.{FaultKind}
-use Rattle.cdc_prog.specs.Plain.{Stmt, Skip, Seq, Assign, If, Arm, Do, Doall, Call, Print, Read as ReadInto, Program}
-use Rattle.cdc_prog.specs.Data.{Store, put, element, Binding}
+use Rattle.cdc_prog.specs.Plain.{Stmt, Program}
+use Rattle.cdc_prog.specs.Data.{Store, put, size_of, element, Binding}
 use Rattle.cdc_prog.specs.Input.{Input}
 use Rattle.cdc_prog.specs.Decimal.{decimal_bytes, IsDecimalOf}
-use Rattle.cdc_prog.specs.Process.{Process, Load, Save, Say, Tick, Fork, Join, Halt, Fail}
+use Rattle.cdc_prog.specs.Process.{Process, Join, Fail}
 use Rattle.cdc_prog.specs.Expressions.{Surroundings}
 use Rattle.cdc_prog.specs.Statements.{Runs, stmt}
 use Rattle.cdc_prog.specs.Units.{body_of, process_of}
+use Rattle.cdc_prog.specs.Bodies.{ComesOnlyTo, HasOnly}
 use Rattle.cdc_prog.specs.Alone.{Access, Read, Write, accesses, left, said, ending, ticks}
 use Rattle.cdc_prog.specs.Apart.{Touches, AreApart}
 use Rattle.cdc_prog.specs.InOrder.{output, ends, after}
@@ -26,11 +27,6 @@ pub record Values : Type 0 where
   pub text : (z : ℤ) → IsTrue (is_value z) → IsDecimalOf z (decimal_bytes z)
 
 -- ---- elements
--- the product of the extents
-abbrev pub size_of : List Dim → ℕ
-size_of [] = 1
-size_of (d ∷ ds) = d.extent * size_of ds
-
 -- an element has a number below the product of the extents, and no other element has it
 pub record Elements : Type 0 where
   pub within : (dims : List Dim) (subs : List ℤ) (n : ℕ) → element dims subs ≡ Ok n → n < size_of dims
@@ -77,30 +73,6 @@ abbrev pub ApartInOrder : Type 0
 ApartInOrder = (n k : ℕ) (body : ℕ → Process) (s : Store) → AreApart n body s → k < n → DoesAlike (body k) s (after k body s)
 
 -- ---- bodies
--- what a process can come to, whatever its loads give: whether it can print, fork or halt
-abbrev pub ComesOnlyTo : (say fork halt : Type 0) → Process → Type 0
-ComesOnlyTo say fork halt (Load site w next) = (v : ℤ) → ComesOnlyTo say fork halt (next v)
-ComesOnlyTo say fork halt (Save site w v next) = ComesOnlyTo say fork halt next
-ComesOnlyTo say fork halt (Say piece next) = say × ComesOnlyTo say fork halt next
-ComesOnlyTo say fork halt (Tick next) = ComesOnlyTo say fork halt next
-ComesOnlyTo say fork halt (Fork number count from by body next) = fork
-ComesOnlyTo say fork halt Join = Unit {0}
-ComesOnlyTo say fork halt Halt = halt
-ComesOnlyTo say fork halt (Fail kind line) = Unit {0}
-
--- whether statements print, have a DOALL, or call; those that do none of this can stand in a DOALL
-abbrev pub HasOnly : (prints doalls calls : Type 0) → Stmt → Type 0
-HasOnly prints doalls calls Skip = Unit {0}
-HasOnly prints doalls calls (Seq a b) = HasOnly prints doalls calls a × HasOnly prints doalls calls b
-HasOnly prints doalls calls (Assign line target value) = Unit {0}
-HasOnly prints doalls calls (If arms) = HasOnly prints doalls calls arms
-HasOnly prints doalls calls (Arm line cond body other) = HasOnly prints doalls calls body × HasOnly prints doalls calls other
-HasOnly prints doalls calls (Do k first body again bump) = HasOnly prints doalls calls body
-HasOnly prints doalls calls (Doall k number slots body) = doalls
-HasOnly prints doalls calls (Call line u actuals) = calls
-HasOnly prints doalls calls (Print line items) = prints
-HasOnly prints doalls calls (ReadInto line targets) = Unit {0}
-
 -- an iteration prints nothing, and ends in its join or a fault; a program without DOALL is one task
 pub record Bodies : Type 0 where
   pub iteration : (calls : ℕ → List ℕ → Runs) (b : Binding) (body : Stmt) (c : Surroundings) → HasOnly ⊥ ⊥ ⊥ body → ComesOnlyTo ⊥ ⊥ ⊥ (stmt calls b body c (λ d. Join))

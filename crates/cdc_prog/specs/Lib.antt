@@ -11,9 +11,11 @@ pub mod Statements
 pub mod Units
 pub mod Alone
 pub mod Apart
+pub mod Bodies
 pub mod InOrder
 pub mod Decimal
 pub mod Meaning
 pub mod Cost
 pub mod Examples
 pub mod Laws
+pub mod Resolved

@@ -1,5 +1,5 @@
 use Rattle.std.proofs.Common.{◌≡◌, ◌*◌, ◌<◌, ◌^◌, ℕ, List, ap, subst, sym, arith, Fits, w32}
-use Rattle.cdc_prog.specs.Laws.{size_of}
+use Rattle.cdc_prog.specs.Data.{size_of}
 use Rattle.cdc_prog.proofs.Numbers.{HasRoom, has_room_in}
 use Rattle.cdc_prog.proofs.store.+element_from.Goals as goal
 
