@@ -6,3 +6,4 @@ pub mod Values
 pub mod Numbers
 pub mod Bodies
 pub mod Translated
+pub mod Words

@@ -14,16 +14,16 @@ ComesOnlyTo say fork halt Join = Unit {0}
 ComesOnlyTo say fork halt Halt = halt
 ComesOnlyTo say fork halt (Fail kind line) = Unit {0}
 
--- whether statements print, have a DOALL, or call; those that do none of this can stand in a DOALL
-abbrev pub HasOnly : (prints doalls calls : Type 0) → Stmt → Type 0
-HasOnly prints doalls calls Skip = Unit {0}
-HasOnly prints doalls calls (Seq a b) = HasOnly prints doalls calls a × HasOnly prints doalls calls b
-HasOnly prints doalls calls (Assign line target value) = Unit {0}
-HasOnly prints doalls calls (If arms) = HasOnly prints doalls calls arms
-HasOnly prints doalls calls (Arm line cond body other) = HasOnly prints doalls calls body × HasOnly prints doalls calls other
-HasOnly prints doalls calls (Do k first body again bump) = HasOnly prints doalls calls body
-HasOnly prints doalls calls (Doall k number slots body) = doalls
-HasOnly prints doalls calls (Call line u actuals) = calls
-HasOnly prints doalls calls (Print line items) = prints
-HasOnly prints doalls calls (Read line targets) = Unit {0}
+-- whether statements print or read, have a DOALL, or call; those that do none of this can stand in a DOALL
+abbrev pub HasOnly : (talks doalls calls : Type 0) → Stmt → Type 0
+HasOnly talks doalls calls Skip = Unit {0}
+HasOnly talks doalls calls (Seq a b) = HasOnly talks doalls calls a × HasOnly talks doalls calls b
+HasOnly talks doalls calls (Assign line target value) = Unit {0}
+HasOnly talks doalls calls (If arms) = HasOnly talks doalls calls arms
+HasOnly talks doalls calls (Arm line cond body other) = HasOnly talks doalls calls body × HasOnly talks doalls calls other
+HasOnly talks doalls calls (Do k first body again bump) = HasOnly talks doalls calls body
+HasOnly talks doalls calls (Doall k number slots body) = doalls
+HasOnly talks doalls calls (Call line u actuals) = calls
+HasOnly talks doalls calls (Print line items) = talks
+HasOnly talks doalls calls (Read line targets) = talks
 

@@ -1,18 +1,20 @@
 -- What the definitions say of one another.
-use Rattle.std.specs.Prelude.{◌≡◌, ◌≢◌, ◌⊎◌, ℕ, ◌+◌, ◌<◌, ℤ, List, [], ◌∷◌, ◌++◌, Ok, IsTrue}
+use Rattle.std.specs.Prelude.{◌≡◌, ◌≢◌, ◌⊎◌, ℕ, ◌+◌, ◌<◌, ℤ, List, [], ◌∷◌, ◌++◌, length, Ok, IsTrue}
+use Rattle.cdc_prog.specs.declared.expr.Var.TheVariants as var
 use Rattle.cdc_prog.specs.declared.expr.UnOp.{UnOp}
 use Rattle.cdc_prog.specs.declared.expr.BinOp.{BinOp}
 use Rattle.cdc_prog.specs.declared.program.Dim.{Dim}
 use Rattle.cdc_prog.specs.Value.{is_value, unary, binary}
 use Rattle.cdc_prog.specs.declared.program.FaultKind.{FaultKind}
 use Rattle.cdc_prog.specs.Plain.{Stmt, Program}
-use Rattle.cdc_prog.specs.Data.{Store, put, size_of, element, Binding}
+use Rattle.cdc_prog.specs.Data.{Store, put, size_of, element, Binding, base_of, dims_of}
 use Rattle.cdc_prog.specs.Input.{Input}
 use Rattle.cdc_prog.specs.Decimal.{decimal_bytes, IsDecimalOf}
 use Rattle.cdc_prog.specs.Process.{Process, Join, Fail}
 use Rattle.cdc_prog.specs.Expressions.{Surroundings}
 use Rattle.cdc_prog.specs.Statements.{Runs, stmt}
 use Rattle.cdc_prog.specs.Units.{body_of, process_of}
+use Rattle.cdc_prog.specs.Resolved.{AreLaidOut, AreBound}
 use Rattle.cdc_prog.specs.Bodies.{ComesOnlyTo, HasOnly}
 use Rattle.cdc_prog.specs.Alone.{Access, Read, Write, accesses, left, said, ending, ticks}
 use Rattle.cdc_prog.specs.Apart.{Touches, AreApart}
@@ -31,6 +33,11 @@ pub record Values : Type 0 where
 pub record Elements : Type 0 where
   pub within : (dims : List Dim) (subs : List ℤ) (n : ℕ) → element dims subs ≡ Ok n → n < size_of dims
   pub distinct : (dims : List Dim) (subs others : List ℤ) (n : ℕ) → element dims subs ≡ Ok n → element dims others ≡ Ok n → subs ≡ others
+
+-- each element of a variable lies in the memory of a program whose objects are laid out and whose dummies are bound; a scalar is an element without subscripts
+pub record Words : Type 0 where
+  pub object : (b : Binding) (words k n : ℕ) (subs : List ℤ) → AreLaidOut 0 b.objects words → k < length b.objects → element (dims_of b (var.Object k)) subs ≡ Ok n → base_of b (var.Object k) + n < words
+  pub dummy : (b : Binding) (words k n : ℕ) (subs : List ℤ) → AreLaidOut 0 b.objects words → AreBound b.objects b.shapes b.bound → k < length b.shapes → element (dims_of b (var.Dummy k)) subs ≡ Ok n → base_of b (var.Dummy k) + n < words
 
 -- ---- a process alone
 -- the store with the writes of a list of accesses, in order

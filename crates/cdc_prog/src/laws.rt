@@ -4,7 +4,7 @@ ghost use Rattle.cdc_prog.specs.declared.program.FaultKind.TheVariants.{Overflow
 ghost use Rattle.cdc_prog.specs.InOrder.{Done};
 ghost use Rattle.cdc_prog.specs.Meaning.{cost, full_cost};
 ghost use Rattle.cdc_prog.specs.Translates.{Translates};
-ghost use Rattle.cdc_prog.specs.Laws.{Values, Elements, Alone, InOrder, ApartInOrder, Bodies};
+ghost use Rattle.cdc_prog.specs.Laws.{Values, Elements, Words, Alone, InOrder, ApartInOrder, Bodies};
 ghost use Rattle.cdc_prog.specs.Examples.{Prints, fault, one, signs, largest, records, share, own, least, calls};
 
 /// The plain tree of a node is the node over the plain trees of its parts.
@@ -17,9 +17,10 @@ pub fn values()
     ensures { Values }
 {}
 
-/// Each element of an array has a number of its own below the product of the extents.
+/// Each element of an array has a number of its own below the product of the extents, and a word of the program's.
 pub fn elements()
-    ensures { Elements }
+    ensures numbers { Elements }
+    ensures words { Words }
 {}
 
 /// What a task does alone on a store is told by its accesses, and depends on the words that it touches alone.
