@@ -1,5 +1,9 @@
 -- What the examples print and cost.
-use Rattle.std.specs.Prelude.{◌≡◌, ℕ, ℤ, pos, List, [], ◌∷◌, refl, codes}
+use Rattle.std.specs.Prelude.{◌≡◌, ℕ, zero, suc, ◌<◌, length, pos, [], ◌∷◌, refl, codes}
+use Rattle.std.proofs.Common.{rules, arith}
+use Rattle.cdc_prog.specs.Plain.{Program}
+use Rattle.cdc_prog.specs.Units.{binding_of, body_of}
+use Rattle.cdc_prog.specs.Resolved.{StmtFits, IsResolved}
 use Rattle.std.specs.Fmt.{digits}
 use Rattle.cdc_prog.specs.declared.program.FaultKind.TheVariants.{Overflow, InputEnded, Subscript}
 use Rattle.cdc_prog.specs.Meaning.{cost, full_cost}
@@ -46,3 +50,44 @@ least_costs = refl
 
 pub least_costs_in_full : full_cost least [] ≡ 54
 least_costs_in_full = refl
+
+-- the first unit calls the others
+abbrev first_calls : ℕ → ℕ
+first_calls zero = 1
+first_calls (suc n) = 0
+
+calls_ranked : (u : ℕ) → u < 2 → first_calls u < 2
+calls_ranked zero lt = omega arith
+calls_ranked (suc n) lt = omega arith
+
+calls_fit : (u : ℕ) → u < 2 → StmtFits calls first_calls (first_calls u) (binding_of calls u []) 0 (body_of calls u)
+calls_fit zero lt = search rules
+calls_fit (suc zero) lt = search rules
+calls_fit (suc (suc n)) lt = absurd (omega (arith, lt))
+
+pub calls_resolved : IsResolved calls
+calls_resolved = record { laid_out = search rules; main = omega arith; main_alone = refl; ranks = first_calls; ranked = calls_ranked; fits = calls_fit }
+
+one_fits : (p : Program) → length p.units ≡ 1 → StmtFits p (λ u. 0) 0 (binding_of p 0 []) 0 (body_of p 0) → (u : ℕ) → u < length p.units → StmtFits p (λ v. 0) 0 (binding_of p u []) 0 (body_of p u)
+one_fits p e h zero lt = h
+one_fits p e h (suc n) lt = absurd (omega (arith, e, lt))
+
+pub least_resolved : IsResolved least
+least_resolved = record {
+  laid_out = search rules;
+  main = omega arith;
+  main_alone = refl;
+  ranks = λ u. 0;
+  ranked = λ u lt. omega arith;
+  fits = one_fits least refl (search rules);
+}
+
+pub largest_resolved : IsResolved largest
+largest_resolved = record {
+  laid_out = search rules;
+  main = omega arith;
+  main_alone = refl;
+  ranks = λ u. 0;
+  ranked = λ u lt. omega arith;
+  fits = one_fits largest refl (search rules);
+}

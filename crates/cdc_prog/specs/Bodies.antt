@@ -26,4 +26,3 @@ HasOnly talks doalls calls (Doall k number slots body) = doalls
 HasOnly talks doalls calls (Call line u actuals) = calls
 HasOnly talks doalls calls (Print line items) = talks
 HasOnly talks doalls calls (Read line targets) = talks
-

@@ -1,6 +1,5 @@
 -- Small programs, as trees.
-use Rattle.std.specs.Prelude.{◌≡◌, ℕ, ℤ, pos, List, [], ◌∷◌, ◌++◌, map, codes, false}
-use Rattle.cdc_base.specs.declared.place.Place.{Place}
+use Rattle.std.specs.Prelude.{◌≡◌, ℕ, pos, List, [], ◌∷◌, ◌++◌, map, sum_by, codes, false}
 use Rattle.cdc_prog.specs.declared.expr.Ref.{Ref}
 use Rattle.cdc_prog.specs.declared.expr.Var.{Var}
 use Rattle.cdc_prog.specs.declared.expr.Var.TheVariants.{Object, Dummy, Slot}
@@ -8,9 +7,8 @@ use Rattle.cdc_prog.specs.declared.expr.UnOp.TheVariants.{Neg, Abs}
 use Rattle.cdc_prog.specs.declared.expr.BinOp.TheVariants.{Add, Sub, Mul, Div, Mod, Eq}
 use Rattle.cdc_prog.specs.declared.program.FaultKind.{FaultKind}
 use Rattle.cdc_prog.specs.declared.program.Dim.{Dim}
-use Rattle.cdc_prog.specs.declared.program.Dummy.{Dummy as DummyOf}
 use Rattle.cdc_prog.specs.declared.program.Object.{Object as ObjectOf}
-use Rattle.cdc_prog.specs.Plain.{Expr, Number, Scalar, Element, Un, Bin, Empty, More, Target, Item, Text, Value, Actual, Whole, Copy, Control, Stmt, Skip, Seq, Assign, If, Arm, Do, Doall, Call, Print, Read, ProgramUnit, Program}
+use Rattle.cdc_prog.specs.Plain.{Expr, Number, Scalar, Element, Un, Bin, Empty, More, Text, Value, Whole, Copy, Control, Stmt, Skip, Seq, Assign, If, Arm, Do, Doall, Call, Print, Read, ProgramUnit, Program}
 use Rattle.cdc_prog.specs.Input.{Input}
 use Rattle.cdc_prog.specs.InOrder.{End, Faulted}
 use Rattle.cdc_prog.specs.Meaning.{meaning}
@@ -84,7 +82,7 @@ main_unit body = record { name = []; dummies = []; body = in_turn body }
 
 -- a program of these units, of which the first is the main one
 abbrev pub program : (units : List ProgramUnit) → List ObjectOf → (texts : List (List ℕ)) → Program
-program units objects texts = record { units = units; main = 0; objects = objects; texts = texts; sites = 0; doalls = 0; words = 0 }
+program units objects texts = record { units = units; main = 0; objects = objects; texts = texts; sites = 0; doalls = 0; words = sum_by (λ o. o.words) objects }
 
 -- ---- the programs
 -- N = 2 + 3; PRINT *, N + 1

@@ -1,5 +1,5 @@
 -- What the definitions say of one another.
-use Rattle.std.specs.Prelude.{◌≡◌, ◌≢◌, ◌⊎◌, ℕ, ◌+◌, ◌<◌, ℤ, List, [], ◌∷◌, ◌++◌, length, Ok, IsTrue}
+use Rattle.std.specs.Prelude.{◌≡◌, ◌⊎◌, ℕ, ◌+◌, ◌<◌, ℤ, List, [], ◌∷◌, ◌++◌, length, Ok, IsTrue}
 use Rattle.cdc_prog.specs.declared.expr.Var.TheVariants as var
 use Rattle.cdc_prog.specs.declared.expr.UnOp.{UnOp}
 use Rattle.cdc_prog.specs.declared.expr.BinOp.{BinOp}

@@ -5,6 +5,7 @@ ghost use Rattle.cdc_prog.specs.InOrder.{Done};
 ghost use Rattle.cdc_prog.specs.Meaning.{cost, full_cost};
 ghost use Rattle.cdc_prog.specs.Translates.{Translates};
 ghost use Rattle.cdc_prog.specs.Laws.{Values, Elements, Words, Alone, InOrder, ApartInOrder, Bodies};
+ghost use Rattle.cdc_prog.specs.Resolved.{IsResolved};
 ghost use Rattle.cdc_prog.specs.Examples.{Prints, fault, one, signs, largest, records, share, own, least, calls};
 
 /// The plain tree of a node is the node over the plain trees of its parts.
@@ -50,6 +51,9 @@ pub fn examples()
     ensures own { Prints own [] (codes "2 1" ∷ []) Done }
     ensures least { Prints least [] (codes "a" ∷ []) (fault Subscript 5) }
     ensures calls { Prints calls [] (codes "1 3" ∷ codes "2 7" ∷ codes "3 7 7" ∷ []) Done }
+    ensures calls_resolved { IsResolved calls }
+    ensures least_resolved { IsResolved least }
+    ensures largest_resolved { IsResolved largest }
     ensures cost { cost one [] ≡ 8 }
     ensures least_cost { cost least [] ≡ 27 }
     ensures least_full_cost { full_cost least [] ≡ 54 }
