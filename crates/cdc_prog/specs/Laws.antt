@@ -23,19 +23,19 @@ use Rattle.cdc_prog.specs.Cost.{cost, full_cost}
 
 -- ---- values
 -- operators give values, and a value is printed as its decimal text
-pub record Values : Type 0 where
+pub record OperatorsGiveValues : Type 0 where
   pub unary : (op : UnOp) (a v : ℤ) → IsTrue (is_value a) → unary op a ≡ Ok v → IsTrue (is_value v)
   pub binary : (op : BinOp) (a b v : ℤ) → IsTrue (is_value a) → IsTrue (is_value b) → binary op a b ≡ Ok v → IsTrue (is_value v)
   pub text : (z : ℤ) → IsTrue (is_value z) → IsDecimalOf z (decimal_bytes z)
 
 -- ---- elements
 -- an element has a number below the product of the extents, and no other element has it
-pub record Elements : Type 0 where
+pub record ElementsAreNumbered : Type 0 where
   pub within : (dims : List Dim) (subs : List ℤ) (n : ℕ) → element dims subs ≡ Ok n → n < size_of dims
   pub distinct : (dims : List Dim) (subs others : List ℤ) (n : ℕ) → element dims subs ≡ Ok n → element dims others ≡ Ok n → subs ≡ others
 
 -- each element of a variable lies in the memory of a program whose objects are laid out and whose dummies are bound; a scalar is an element without subscripts
-pub record Words : Type 0 where
+pub record ElementsLieInMemory : Type 0 where
   pub object : (b : Binding) (words k n : ℕ) (subs : List ℤ) → AreLaidOut 0 b.objects words → k < length b.objects → element (dims_of b (var.Object k)) subs ≡ Ok n → base_of b (var.Object k) + n < words
   pub dummy : (b : Binding) (words k n : ℕ) (subs : List ℤ) → AreLaidOut 0 b.objects words → AreBound b.objects b.shapes b.bound → k < length b.shapes → element (dims_of b (var.Dummy k)) subs ≡ Ok n → base_of b (var.Dummy k) + n < words
 
@@ -61,14 +61,14 @@ pub record DoesAlike (p : Process) (s t : Store) : Type 0 where
   pub left : (w : ℕ) → t w ≡ s w → left p t w ≡ left p s w
 
 -- the accesses tell all that a process has to do with its store
-pub record Alone : Type 0 where
+pub record AccessesTellAll : Type 0 where
   pub reads : (p : Process) (s : Store) → ReadsRight (accesses p s) s
   pub left : (p : Process) (s : Store) → left p s ≡ written (accesses p s) s
   pub alike : (p : Process) (s t : Store) → ((w : ℕ) → Touches (accesses p s) w → t w ≡ s w) → DoesAlike p s t
 
 -- ---- in order
 -- a program in order is its first task alone, and then the rest from the store that this task left
-pub record InOrder : Type 0 where
+pub record IsTaskByTask : Type 0 where
   pub output : (p : Process) (s : Store) → output p s ≡ said p s ++ output (ending p s) (left p s)
   pub ends : (p : Process) (s : Store) → ends p s ≡ ends (ending p s) (left p s)
   pub cost : (p : Process) (s : Store) → cost p s ≡ ticks p s + cost (ending p s) (left p s)
@@ -81,7 +81,7 @@ ApartInOrder = (n k : ℕ) (body : ℕ → Process) (s : Store) → AreApart n b
 
 -- ---- bodies
 -- an iteration prints nothing, and ends in its join or a fault; a program without DOALL is one task
-pub record Bodies : Type 0 where
+pub record BodiesAreQuiet : Type 0 where
   pub iteration : (calls : ℕ → List ℕ → Runs) (b : Binding) (body : Stmt) (c : Surroundings) → HasOnly ⊥ ⊥ ⊥ body → ComesOnlyTo ⊥ ⊥ ⊥ (stmt calls b body c (λ d. Join))
   pub silent : (p : Process) (s : Store) → ComesOnlyTo ⊥ ⊥ ⊥ p → (said p s ≡ []) × ((ending p s ≡ Join) ⊎ ((kind : FaultKind) × (line : ℕ) × (ending p s ≡ Fail kind line)))
   pub serial : (p : Program) (records : Input) → ((u : ℕ) → HasOnly (Unit {0}) ⊥ (Unit {0}) (body_of p u)) → ComesOnlyTo (Unit {0}) ⊥ (Unit {0}) (process_of p records)

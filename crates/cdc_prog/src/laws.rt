@@ -4,7 +4,7 @@ ghost use Rattle.cdc_prog.specs.declared.program.FaultKind.TheVariants.{Overflow
 ghost use Rattle.cdc_prog.specs.InOrder.{Done};
 ghost use Rattle.cdc_prog.specs.Meaning.{cost, full_cost};
 ghost use Rattle.cdc_prog.specs.Translates.{Translates};
-ghost use Rattle.cdc_prog.specs.Laws.{Values, Elements, Words, Alone, InOrder, ApartInOrder, Bodies};
+ghost use Rattle.cdc_prog.specs.Laws.{OperatorsGiveValues, ElementsAreNumbered, ElementsLieInMemory, AccessesTellAll, IsTaskByTask, ApartInOrder, BodiesAreQuiet};
 ghost use Rattle.cdc_prog.specs.Resolved.{IsResolved};
 ghost use Rattle.cdc_prog.specs.Examples.{Prints, fault, one, signs, largest, records, share, own, least, calls};
 
@@ -15,30 +15,30 @@ pub fn translation()
 
 /// Operators give values, and a value is printed as its decimal text.
 pub fn values()
-    ensures { Values }
+    ensures { OperatorsGiveValues }
 {}
 
 /// Each element of an array has a number of its own below the product of the extents, and a word of the program's.
 pub fn elements()
-    ensures numbers { Elements }
-    ensures words { Words }
+    ensures numbers { ElementsAreNumbered }
+    ensures words { ElementsLieInMemory }
 {}
 
 /// What a task does alone on a store is told by its accesses, and depends on the words that it touches alone.
 pub fn tasks_alone()
-    ensures { Alone }
+    ensures { AccessesTellAll }
 {}
 
 /// A program in order is its tasks in order, each alone on the store that the one before it left. Iterations that do
 /// not meet do in order what each does on the store on which the loop began.
 pub fn tasks_in_order()
-    ensures tasks { InOrder }
+    ensures tasks { IsTaskByTask }
     ensures iterations { ApartInOrder }
 {}
 
 /// An iteration prints nothing, and ends in its join or in a fault. A program without DOALL is one task.
 pub fn bodies()
-    ensures { Bodies }
+    ensures { BodiesAreQuiet }
 {}
 
 /// What some programs print, how they end, and what they cost.
