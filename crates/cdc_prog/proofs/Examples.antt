@@ -66,7 +66,7 @@ calls_fit (suc zero) lt = search rules
 calls_fit (suc (suc n)) lt = absurd (omega (arith, lt))
 
 pub calls_resolved : IsResolved calls
-calls_resolved = record { laid_out = search rules; main = omega arith; main_alone = refl; ranks = first_calls; ranked = calls_ranked; fits = calls_fit }
+calls_resolved = record { laid_out = search rules; shaped = search rules; small = omega arith; main = omega arith; main_alone = refl; ranks = first_calls; ranked = calls_ranked; fits = calls_fit }
 
 one_fits : (p : Program) → length p.units ≡ 1 → StmtFits p (λ u. 0) 0 (binding_of p 0 []) 0 (body_of p 0) → (u : ℕ) → u < length p.units → StmtFits p (λ v. 0) 0 (binding_of p u []) 0 (body_of p u)
 one_fits p e h zero lt = h
@@ -75,6 +75,8 @@ one_fits p e h (suc n) lt = absurd (omega (arith, e, lt))
 pub least_resolved : IsResolved least
 least_resolved = record {
   laid_out = search rules;
+  shaped = search rules;
+  small = omega arith;
   main = omega arith;
   main_alone = refl;
   ranks = λ u. 0;
@@ -85,6 +87,8 @@ least_resolved = record {
 pub largest_resolved : IsResolved largest
 largest_resolved = record {
   laid_out = search rules;
+  shaped = search rules;
+  small = omega arith;
   main = omega arith;
   main_alone = refl;
   ranks = λ u. 0;

@@ -11,12 +11,15 @@ use Rattle.cdc_prog.specs.Value.{Got}
 abbrev pub Store : Type 0
 Store = ℕ → ℤ
 
+-- each variable starts at 0
 abbrev pub zeros : Store
 zeros w = pos 0
 
+-- the store with a value put in a word
 abbrev pub put : Store → ℕ → ℤ → Store
 put s w v x = if x == w then v else s x
 
+-- a position from 0, where it is below the extent
 abbrev pub below : ℕ → ℤ → Got ℕ
 below extent (pos n) = if nat_lt n extent then Ok n else Err Subscript
 below extent (negsuc n) = Err Subscript
@@ -25,6 +28,7 @@ below extent (negsuc n) = Err Subscript
 abbrev pub position : Dim → ℤ → Got ℕ
 position d sub = below d.extent (sub -ℤ d.low)
 
+-- goes on with a number, or hands the fault on
 abbrev pub with_position : Got ℕ → (ℕ → Got ℕ) → Got ℕ
 with_position (Ok n) rest = rest n
 with_position (Err kind) rest = Err kind
@@ -51,6 +55,7 @@ pub record Binding : Type 0 where
   pub shapes : List (List Dim)
   pub bound : List ℕ
 
+-- the object that a variable stands for; a slot has none
 abbrev pub object_of : Binding → Var → ℕ
 object_of b (var.Object k) = k
 object_of b (var.Dummy k) = get_or b.bound k 0
@@ -68,6 +73,7 @@ dims_in (Some o) = o.dims
 abbrev pub base_of : Binding → Var → ℕ
 base_of b v = base_in (slice_get b.objects (object_of b v))
 
+-- the dimensions of a variable as its unit declares it
 abbrev pub dims_of : Binding → Var → List Dim
 dims_of b (var.Object k) = dims_in (slice_get b.objects k)
 dims_of b (var.Dummy k) = get_or b.shapes k []

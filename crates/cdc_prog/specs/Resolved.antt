@@ -1,5 +1,5 @@
 -- What a resolved program keeps, so that each access lies in the memory of its objects.
-use Rattle.std.specs.Prelude.{◌≡◌, ℕ, ◌+◌, ◌<◌, List, [], ◌∷◌, map, length, IsTrue, slice_get}
+use Rattle.std.specs.Prelude.{◌≡◌, ℕ, ◌+◌, ◌^◌, ◌<◌, ◌≤◌, List, [], ◌∷◌, map, length, IsTrue, slice_get}
 use Rattle.cdc_prog.specs.declared.expr.Var.{Var}
 use Rattle.cdc_prog.specs.declared.expr.Var.TheVariants as var
 use Rattle.cdc_prog.specs.declared.program.Dim.{Dim}
@@ -94,9 +94,11 @@ StmtFits p ranks rank b slots (Call line u actuals) =
 StmtFits p ranks rank b slots (Print line items) = All (ItemFits b slots (length p.texts)) items
 StmtFits p ranks rank b slots (Read line targets) = All (TargetFits b slots) targets
 
--- a resolved program: its objects lie one after another from word 0, its statements fit, its main unit has no dummies, and its units have ranks below their number, which fall at each CALL; so no unit reaches itself
+-- a resolved program: its objects lie one after another from word 0, have at most three dimensions and take at most 2^22 words, its statements fit, its main unit has no dummies, and its units have ranks below their number, which fall at each CALL; so no unit reaches itself
 pub record IsResolved (p : Program) : Type 0 where
   pub laid_out : AreLaidOut 0 p.objects p.words
+  pub shaped : All (λ o. length o.dims ≤ 3) p.objects
+  pub small : p.words ≤ 2 ^ 22
   pub main : p.main < length p.units
   pub main_alone : shapes_in (slice_get p.units p.main) ≡ []
   pub ranks : ℕ → ℕ
