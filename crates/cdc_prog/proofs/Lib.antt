@@ -7,3 +7,4 @@ pub mod Numbers
 pub mod Bodies
 pub mod Translated
 pub mod Words
+pub mod Forks

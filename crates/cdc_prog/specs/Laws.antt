@@ -1,16 +1,16 @@
 -- What the definitions say of one another.
-use Rattle.std.specs.Prelude.{◌≡◌, ◌⊎◌, ℕ, ◌+◌, ◌<◌, ℤ, List, [], ◌∷◌, ◌++◌, length, Ok, IsTrue}
+use Rattle.std.specs.Prelude.{◌≡◌, ◌⊎◌, ℕ, ◌+◌, ◌<◌, ℤ, List, [], ◌∷◌, ◌++◌, length, Ok, Some, None, IsTrue}
 use Rattle.cdc_prog.specs.declared.expr.Var.TheVariants as var
 use Rattle.cdc_prog.specs.declared.expr.UnOp.{UnOp}
 use Rattle.cdc_prog.specs.declared.expr.BinOp.{BinOp}
 use Rattle.cdc_prog.specs.declared.program.Dim.{Dim}
-use Rattle.cdc_prog.specs.Value.{is_value, unary, binary}
+use Rattle.cdc_prog.specs.Value.{Fault, is_value, unary, binary}
 use Rattle.cdc_prog.specs.declared.program.FaultKind.{FaultKind}
 use Rattle.cdc_prog.specs.Plain.{Stmt, Program}
 use Rattle.cdc_prog.specs.Data.{Store, put, size_of, element, Binding, base_of, dims_of}
 use Rattle.cdc_prog.specs.Input.{Input}
 use Rattle.cdc_prog.specs.Decimal.{decimal_bytes, IsDecimalOf}
-use Rattle.cdc_prog.specs.Process.{Process, Join, Fail}
+use Rattle.cdc_prog.specs.Process.{Process, Fork, Join, Fail}
 use Rattle.cdc_prog.specs.Expressions.{Surroundings}
 use Rattle.cdc_prog.specs.Statements.{Runs, stmt}
 use Rattle.cdc_prog.specs.Units.{body_of, process_of}
@@ -18,7 +18,7 @@ use Rattle.cdc_prog.specs.Resolved.{AreLaidOut, AreBound}
 use Rattle.cdc_prog.specs.Bodies.{ComesOnlyTo, HasOnly}
 use Rattle.cdc_prog.specs.Alone.{Access, Read, Write, accesses, left, said, ending, ticks}
 use Rattle.cdc_prog.specs.Apart.{Touches, AreApart}
-use Rattle.cdc_prog.specs.InOrder.{output, ends, after}
+use Rattle.cdc_prog.specs.InOrder.{fault_of, output, ends, after, run}
 use Rattle.cdc_prog.specs.Cost.{cost, full_cost}
 
 -- ---- values
@@ -78,6 +78,19 @@ pub record IsTaskByTask : Type 0 where
 -- in order on one store, iterations that are apart do what each does alone on the opening store
 abbrev pub ApartInOrder : Type 0
 ApartInOrder = (n k : ℕ) (body : ℕ → Process) (s : Store) → AreApart n body s → k < n → DoesAlike (body k) s (after k body s)
+
+-- the iterations below n print nothing, in order on one store
+abbrev pub AreSilent : ℕ → (ℕ → Process) → Store → Type 0
+AreSilent n body s = (k : ℕ) → k < n → said (body k) (after k body s) ≡ []
+
+-- the iterations below n end without a fault, in order on one store
+abbrev pub AreDone : ℕ → (ℕ → Process) → Store → Type 0
+AreDone n body s = (k : ℕ) → k < n → fault_of (ending (body k) (after k body s)) ≡ None
+
+-- after a fork whose iterations print nothing the program goes on where all of them are done, and else it ends with the fault of the first that faults
+pub record ForksGoOn : Type 0 where
+  pub done : (number n : ℕ) (from by : ℤ) (body : ℕ → Process) (next : Process) (s : Store) → AreSilent n body s → AreDone n body s → run (Fork number n from by body next) s ≡ run next (after n body s)
+  pub faulted : (number n : ℕ) (from by : ℤ) (body : ℕ → Process) (next : Process) (s : Store) (k : ℕ) (f : Fault) → AreSilent n body s → k < n → AreDone k body s → fault_of (ending (body k) (after k body s)) ≡ Some f → run (Fork number n from by body next) s ≡ run (Fail f.kind f.line) s
 
 -- ---- bodies
 -- an iteration prints nothing, and ends in its join or a fault; a program without DOALL is one task

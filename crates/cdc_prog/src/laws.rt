@@ -4,7 +4,7 @@ ghost use Rattle.cdc_prog.specs.declared.program.FaultKind.TheVariants.{Overflow
 ghost use Rattle.cdc_prog.specs.InOrder.{Done};
 ghost use Rattle.cdc_prog.specs.Meaning.{cost, full_cost};
 ghost use Rattle.cdc_prog.specs.Translates.{Translates};
-ghost use Rattle.cdc_prog.specs.Laws.{OperatorsGiveValues, ElementsAreNumbered, ElementsLieInMemory, AccessesTellAll, IsTaskByTask, ApartInOrder, BodiesAreQuiet};
+ghost use Rattle.cdc_prog.specs.Laws.{OperatorsGiveValues, ElementsAreNumbered, ElementsLieInMemory, AccessesTellAll, IsTaskByTask, ForksGoOn, ApartInOrder, BodiesAreQuiet};
 ghost use Rattle.cdc_prog.specs.Resolved.{IsResolved};
 ghost use Rattle.cdc_prog.specs.Examples.{Prints, fault, one, signs, largest, records, share, own, least, calls};
 
@@ -29,10 +29,12 @@ pub fn tasks_alone()
     ensures { AccessesTellAll }
 {}
 
-/// A program in order is its tasks in order, each alone on the store that the one before it left. Iterations that do
-/// not meet do in order what each does on the store on which the loop began.
+/// A program in order is its tasks in order, each alone on the store that the one before it left. It goes on after a
+/// fork where no iteration faults, and ends with the first fault otherwise. Iterations that do not meet do in order
+/// what each does on the store on which the loop began.
 pub fn tasks_in_order()
     ensures tasks { IsTaskByTask }
+    ensures forks { ForksGoOn }
     ensures iterations { ApartInOrder }
 {}
 
