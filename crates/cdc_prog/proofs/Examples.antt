@@ -1,14 +1,16 @@
 -- What the examples print and cost.
 use Rattle.std.specs.Prelude.{◌≡◌, ℕ, zero, suc, ◌<◌, length, pos, [], ◌∷◌, refl, codes}
-use Rattle.std.proofs.Common.{rules, arith}
+use Rattle.std.proofs.Common.{rules, arith, inl, inr}
 use Rattle.cdc_prog.specs.Plain.{Program}
 use Rattle.cdc_prog.specs.Units.{binding_of, body_of}
+use Rattle.cdc_prog.specs.Data.{zeros}
+use Rattle.cdc_prog.specs.Apart.{AreApart}
 use Rattle.cdc_prog.specs.Resolved.{StmtFits, IsResolved}
 use Rattle.std.specs.Fmt.{digits}
 use Rattle.cdc_prog.specs.declared.program.FaultKind.TheVariants.{Overflow, InputEnded, Subscript}
 use Rattle.cdc_prog.specs.Meaning.{cost, full_cost}
 use Rattle.cdc_prog.specs.InOrder.{Done}
-use Rattle.cdc_prog.specs.Examples.{Prints, fault, one, signs, largest, records, share, own, least, calls}
+use Rattle.cdc_prog.specs.Examples.{Prints, fault, one, signs, largest, records, share, first_loop, own, least, calls}
 
 pub one_prints : Prints one [] (codes "6" ∷ []) Done
 unfolding digits
@@ -95,3 +97,17 @@ largest_resolved = record {
   ranked = λ u lt. omega arith;
   fits = one_fits largest refl (search rules);
 }
+
+pub own_apart : AreApart 2 (first_loop own) zeros
+own_apart zero zero w li lj ne h g = absurd (ne refl)
+own_apart zero (suc zero) w li lj ne (inl e) (inl f) = cc
+own_apart zero (suc zero) w li lj ne (inl e) (inr (inl f)) = cc
+own_apart zero (suc zero) w li lj ne (inl e) (inr (inr f)) = absurd f
+own_apart zero (suc zero) w li lj ne (inr e) g = absurd e
+own_apart (suc zero) zero w li lj ne (inl e) (inl f) = cc
+own_apart (suc zero) zero w li lj ne (inl e) (inr (inl f)) = cc
+own_apart (suc zero) zero w li lj ne (inl e) (inr (inr f)) = absurd f
+own_apart (suc zero) zero w li lj ne (inr e) g = absurd e
+own_apart (suc zero) (suc zero) w li lj ne h g = absurd (ne refl)
+own_apart (suc (suc i)) j w li lj ne h g = absurd (omega (arith, li))
+own_apart i (suc (suc j)) w li lj ne h g = absurd (omega (arith, lj))

@@ -5,8 +5,10 @@ ghost use Rattle.cdc_prog.specs.InOrder.{Done};
 ghost use Rattle.cdc_prog.specs.Meaning.{cost, full_cost};
 ghost use Rattle.cdc_prog.specs.Translates.{Translates};
 ghost use Rattle.cdc_prog.specs.Laws.{OperatorsGiveValues, ElementsAreNumbered, ElementsLieInMemory, AccessesTellAll, IsTaskByTask, ForksGoOn, ApartInOrder, BodiesAreQuiet};
+ghost use Rattle.cdc_prog.specs.Data.{zeros};
+ghost use Rattle.cdc_prog.specs.Apart.{AreApart};
 ghost use Rattle.cdc_prog.specs.Resolved.{IsResolved};
-ghost use Rattle.cdc_prog.specs.Examples.{Prints, fault, one, signs, largest, records, share, own, least, calls};
+ghost use Rattle.cdc_prog.specs.Examples.{Prints, fault, one, signs, largest, records, share, first_loop, own, least, calls};
 
 /// The plain tree of a node is the node over the plain trees of its parts.
 pub fn translation()
@@ -53,6 +55,7 @@ pub fn examples()
     ensures own { Prints own [] (codes "2 1" ∷ []) Done }
     ensures least { Prints least [] (codes "a" ∷ []) (fault Subscript 5) }
     ensures calls { Prints calls [] (codes "1 3" ∷ codes "2 7" ∷ codes "3 7 7" ∷ []) Done }
+    ensures own_apart { AreApart 2 (first_loop own) zeros }
     ensures calls_resolved { IsResolved calls }
     ensures least_resolved { IsResolved least }
     ensures largest_resolved { IsResolved largest }
