@@ -1,0 +1,9 @@
+pub mod Bytes
+pub mod Symbols
+pub mod Pieces
+pub mod Tokens
+pub mod Refusals
+pub mod Logical
+pub mod Cutting
+pub mod Values
+pub mod Taking
