@@ -1,9 +1,10 @@
 -- What the bytes of a line are: pieces, each the longest that begins at its place.
-use Rattle.std.specs.Prelude.{◌≡◌, ◌≤◌, ℕ, ◌+◌, Bool, true, false, ◌&&◌, ◌||◌, if◌then◌else◌, ◌==◌, List, [], ◌∷◌, ◌++◌, length, IsSome}
+use Rattle.std.specs.Prelude.{◌≡◌, ◌≤◌, ℕ, ◌+◌, Bool, true, false, ◌&&◌, ◌||◌, if◌then◌else◌, ◌==◌, List, [], ◌∷◌, ◌++◌, length, Some}
 use Rattle.std.specs.Char.{is_ascii_digit, is_ascii_alphabetic}
 use Rattle.std.specs.List.{AllByRecursion}
 use Rattle.cdc_token.specs.declared.piece.Kind.{Kind}
 use Rattle.cdc_token.specs.declared.piece.Kind.TheVariants.{Blank, Comment, Text, Name, Number, Symbol, Mark, Semicolon}
+use Rattle.cdc_token.specs.declared.token.Symbol as symbols
 use Rattle.cdc_token.specs.Bytes.{is_blank, is_word, is_quote, BeginsWith}
 use Rattle.cdc_token.specs.Symbols.{symbol}
 
@@ -20,7 +21,7 @@ Is Comment (b ∷ z) = b ≡ 33
 Is Text (b ∷ z) = (is_quote b ≡ true) × (s : List ℕ) × (z ≡ doubled b s ++ b ∷ [])
 Is Name (b ∷ z) = (is_ascii_alphabetic b ≡ true) × AllByRecursion (λ c. is_word c ≡ true) z
 Is Number (b ∷ z) = (is_ascii_digit b ≡ true) × AllByRecursion (λ c. is_ascii_digit c ≡ true) z
-Is Symbol (b ∷ z) = IsSome (symbol (b ∷ z))
+Is Symbol (b ∷ z) = (y : symbols.Symbol) × (symbol (b ∷ z) ≡ Some y)
 Is Mark (b ∷ z) = (b ≡ 38) × (z ≡ [])
 Is Semicolon (b ∷ z) = (b ≡ 59) × (z ≡ [])
 
