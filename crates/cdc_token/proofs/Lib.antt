@@ -1,2 +1,5 @@
 pub mod Spellings
 pub mod Longest
+pub mod FirstLine
+pub mod Values
+pub mod Reached

@@ -14,7 +14,7 @@ use Rattle.cdc_token.specs.Bytes.{is_blank, is_word, is_quote, BeginsWith, Begin
 use Rattle.cdc_token.specs.Symbols.{spellings, symbol}
 use Rattle.cdc_token.specs.Pieces.{doubled, Is, MayEnd, IsPiece, NoPiece}
 use Rattle.cdc_token.specs.Cutting.{kind_at, closing, first_fit, second, len, paired, cut}
-use Rattle.cdc_token.proofs.Spellings.{by_test, some_same, Front, symbol_first, symbol_longest, front_is}
+use Rattle.cdc_token.proofs.Spellings.{by_test, some_same, Front, symbol_none, symbol_first, symbol_longest, front_is}
 
 -- ---- the first byte tells the kind
 
@@ -156,7 +156,7 @@ second_some None n h = absurd (cc)
 second_some (Some p) n h = (p.0, ap (λ m. Some (p.0, m)) (some_same p.1 n h))
 
 symbol_cuts : (b : ℕ) (z : List ℕ) (y : symbols.Symbol) (n : ℕ) → Front spellings (b ∷ z) y n → Cuts Symbol b z n
-symbol_cuts b z y zero h = absurd (let none : symbol [] ≡ None = refl in let clash : None ≡ Some y = sym none ∙ h.is in cc)
+symbol_cuts b z y zero h = absurd (let clash : None ≡ Some y = sym symbol_none ∙ h.is in cc)
 symbol_cuts b z y (suc n) h = record {
   front = take n z;
   rest = drop n z;

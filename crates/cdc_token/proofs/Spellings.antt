@@ -1,8 +1,8 @@
 -- The first spelling that stands at a place is the longest.
-use Rattle.std.proofs.Common.{◌≡◌, ◌⊎◌, ℕ, zero, suc, ◌+◌, ◌≤◌, ◌<◌, Bool, true, false, not, ◌&&◌, cond, eqb, ltb, leb, List, [], ◌∷◌, ◌++◌, length, get_or, take, drop, map, Option, Some, None, sym, refl, ap, ◌∙◌, subst, ⊎_elim, arith}
+use Rattle.std.proofs.Common.{◌≡◌, ◌⊎◌, ℕ, zero, suc, ◌+◌, ◌≤◌, ◌<◌, Bool, true, false, not, ◌&&◌, cond, eqb, ltb, leb, List, [], ◌∷◌, ◌++◌, length, get_or, take, drop, map, append-nil, Option, Some, None, sym, refl, ap, ◌∙◌, subst, ⊎_elim, arith}
 use Rattle.std.proofs.lemmas.Grind.{common_steps}
 use Rattle.std.proofs.lemmas.Bool.{cases_Bool, and_parts, true≢false, leb-true, ltb-true, eqb-true}
-use Rattle.std.proofs.lemmas.List.{length-map, length-take-le, length-take}
+use Rattle.std.proofs.lemmas.List.{length-map, length-take-le, length-take, take_all}
 use Rattle.std.proofs.Math.Seq.{take-append_seam}
 use Rattle.std.specs.List.{list_all}
 use Rattle.std.specs.Char.{to_ascii_lowercase}
@@ -94,10 +94,29 @@ longest (s ∷ more) f r y fall h =
     (λ off. let rec = longest more f r y parts.1 (rw no' at h) in record { found = rec.found; is = rw off rec.is; long = rec.long }))
 
 spellings_fall : falling spellings ≡ true
+unfolding spellings
 spellings_fall = refl
 
 pub symbol_longest : (f r : List ℕ) (y : symbols.Symbol) → symbol f ≡ Some y → AtLeast (first_fit spellings (f ++ r)) (length f)
 symbol_longest f r y h = longest spellings f r y spellings_fall h
+
+pub symbol_none : symbol [] ≡ None
+unfolding spellings
+symbol_none = refl
+
+-- where all bytes are a symbol, the one that is found is this
+pub symbol_whole : (f : List ℕ) (x : symbols.Symbol) → symbol f ≡ Some x → (y : symbols.Symbol) (n : ℕ) → Some (y, n) ≡ first_fit spellings f → symbol f ≡ Some y
+symbol_whole f x is y n found =
+    let least = symbol_longest f [] x is in
+    let most = front_is spellings f y n (sym found) in
+    let same : least.found ≡ (y, n) = some_same least.found (y, n) (sym least.is ∙ ap (first_fit spellings) (append-nil f) ∙ sym found) in
+    let long : length f ≤ n = let size : least.found.1 ≡ n = ap (λ p. p.1) same in omega (arith, size, least.long) in
+    ap symbol (sym (take_all n f long)) ∙ most.is
+
+pub symbol_found : (f : List ℕ) (x : symbols.Symbol) → symbol f ≡ Some x → None ≡ first_fit spellings f → ⊥
+symbol_found f x is none =
+    let least = symbol_longest f [] x is in
+    let clash : None ≡ Some least.found = none ∙ sym (ap (first_fit spellings) (append-nil f)) ∙ least.is in cc
 
 -- ---- the first byte of a symbol begins nothing else
 
@@ -137,6 +156,7 @@ first_symbol (h ∷ t) b z begins same =
     ap kind_at is ∙ is_symbol_true (kind_at h) parts.1
 
 spellings_begin : list_all (λ s. begins_symbol s.0) spellings ≡ true
+unfolding spellings
 spellings_begin = refl
 
 pub symbol_first : (b : ℕ) (z : List ℕ) (y : symbols.Symbol) → symbol (b ∷ z) ≡ Some y → kind_at b ≡ Symbol

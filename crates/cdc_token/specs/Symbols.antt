@@ -9,7 +9,7 @@ abbrev pub Spelling : Type 0
 Spelling = List ℕ × symbols.Symbol
 
 -- the longer ones first
-abbrev pub spellings : List Spelling
+unfoldable pub spellings : List Spelling
 spellings =
     (codes ".NOT.", Not) ∷ (codes ".AND.", And)
     ∷ (codes ".EQ.", Eq) ∷ (codes ".NE.", Ne) ∷ (codes ".LT.", Lt) ∷ (codes ".LE.", Le) ∷ (codes ".GT.", Gt) ∷ (codes ".GE.", Ge) ∷ (codes ".OR.", Or)

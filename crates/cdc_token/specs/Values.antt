@@ -1,5 +1,5 @@
 -- The values of pieces, from byte to byte.
-use Rattle.std.specs.Prelude.{◌≡◌, ◌<◌, ◌⊎◌, ℕ, ◌+◌, ◌-◌, ◌*◌, Bool, true, false, if◌then◌else◌, ◌==◌, List, [], ◌∷◌, length}
+use Rattle.std.specs.Prelude.{◌≡◌, ◌<◌, ◌⊎◌, ℕ, ◌+◌, ◌-◌, ◌*◌, Bool, true, false, not, ◌&&◌, ◌==◌, List, [], ◌∷◌, ◌++◌, length}
 use Rattle.cdc_token.specs.declared.piece.Kind.{Kind}
 use Rattle.cdc_token.specs.declared.fault.Fault.{Fault}
 use Rattle.cdc_token.specs.declared.fault.LineRefusal.{LineRefusal}
@@ -11,11 +11,14 @@ abbrev pub number_after : ℕ → List ℕ → ℕ
 number_after n [] = n
 number_after n (b ∷ z) = number_after (n * 10 + (b - 48)) z
 
+abbrev pub kept : Bool → ℕ → List ℕ
+kept true b = []
+kept false b = b ∷ []
+
 -- without the second of two quotes; the flag: this byte is one
 abbrev pub halved : ℕ → Bool → List ℕ → List ℕ
 halved q is_second [] = []
-halved q true (b ∷ z) = halved q false z
-halved q false (b ∷ z) = b ∷ halved q (b == q) z
+halved q is_second (b ∷ z) = kept is_second b ++ halved q (not is_second && b == q) z
 
 -- the first thing that is wrong with a piece, which begins at this column
 pub record FirstWrong (kind : Kind) (bytes : List ℕ) (column : ℕ) (d : Fault) (c : ℕ) : Type 0 where

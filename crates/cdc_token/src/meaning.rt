@@ -60,10 +60,12 @@ fn text_meaning(alloc: Global, bytes: &[u8], column: u32) -> Result<Meaning, Lin
     ensures ok { IfOk result (λ m. (m ≡ spec.meaning Kind.Text bytes.now) × values.NothingWrong Kind.Text bytes.now) }
     ensures wrong { IfErr result (λ e. values.Rejects Kind.Text bytes.now column e) }
 {
-    if let Some(behind) = bad_byte(bytes) {
-        return Err(LineRefusal::At(Fault::BadByte, column + behind as u32));
+    match bad_byte(bytes) {
+        Some(behind) => Err(LineRefusal::At(Fault::BadByte, column + behind as u32)),
+        None => Ok(Meaning::Token(Token::Text(List::of(content(
+            alloc, bytes,
+        )?)))),
     }
-    Ok(Meaning::Token(Token::Text(List::of(content(alloc, bytes)?))))
 }
 
 fn symbol_meaning(bytes: &[u8]) -> Meaning

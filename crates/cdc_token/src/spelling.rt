@@ -36,11 +36,22 @@ pub const SPELLINGS: [(&[u8], Symbol); 25] = [
     (b"/", Symbol::Slash),
 ];
 
+fn same_letters(a: &[u8], b: &[u8]) -> bool
+    ensures { result ≡ str_eq_ignore_ascii_case a.now b.now }
+{
+    a.eq_ignore_ascii_case(b)
+}
+
+fn front(z: &[u8], n: usize) -> &[u8]
+    ensures { result.now ≡ take n z.now }
+{
+    if n < z.len() { &z[..n] } else { z }
+}
+
 fn begins_with(z: &[u8], spelling: &[u8]) -> bool
     ensures { result ≡ str_eq_ignore_ascii_case spelling.now (take (length spelling.now) z.now) }
 {
-    let end = if spelling.len() < z.len() { spelling.len() } else { z.len() };
-    spelling.eq_ignore_ascii_case(&z[..end])
+    same_letters(spelling, front(z, spelling.len()))
 }
 
 fn first_fit(mut table: &[(&[u8], Symbol)], z: &[u8]) -> Option<(Symbol, usize)>

@@ -1,6 +1,6 @@
 //! The values of names, numbers and texts.
 
-ghost use Rattle.std.specs.Prelude.{◌≡◌, ◌≤◌, ◌<◌, ◌+◌, ◌*◌, ◌^◌, ◌∷◌, ◌++◌, ℕ, List, [], length, map, pos, false, not, IfOk, MatchOption};
+ghost use Rattle.std.specs.Prelude.{◌≡◌, ◌≤◌, ◌<◌, ◌+◌, ◌*◌, ◌^◌, ◌∷◌, ◌++◌, ℕ, List, [], length, map, pos, false, not, OnOk, IfOk, MatchOption};
 ghost use Rattle.std.specs.List.{position};
 ghost use Rattle.std.specs.Char.{to_ascii_uppercase};
 ghost use Rattle.cdc_token.specs.Bytes as bytes;
@@ -30,6 +30,16 @@ pub fn number(digits: &[u8]) -> Option<i64>
     Some(value as i64)
 }
 
+// Each byte is kept that is not the second of two quotes.
+fn keep(out: &mut Vec<u8>, is_second: bool, b: u8) -> Result<(), AllocError>
+    ensures { OnOk result (out.new.items ≡ out.old.items ++ spec.kept is_second b) }
+{
+    if !is_second {
+        out.push(b)?;
+    }
+    Ok(())
+}
+
 /// What stands between the quotes of a text, without the second of two quotes.
 pub fn without_seconds(alloc: Global, quote: u8, inner: &[u8]) -> Result<Vec<u8>, AllocError>
     ensures { IfOk result (λ v. v.items ≡ spec.halved quote false inner.now) }
@@ -37,12 +47,8 @@ pub fn without_seconds(alloc: Global, quote: u8, inner: &[u8]) -> Result<Vec<u8>
     let mut out = Vec::new(alloc);
     let mut is_second = false;
     for b in inner {
-        if is_second {
-            is_second = false;
-        } else {
-            out.push(*b)?;
-            is_second = *b == quote;
-        }
+        keep(&mut out, is_second, *b)?;
+        is_second = !is_second && *b == quote;
     }
     Ok(out)
 }
