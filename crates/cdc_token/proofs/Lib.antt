@@ -3,3 +3,5 @@ pub mod Longest
 pub mod FirstLine
 pub mod Values
 pub mod Reached
+pub mod Limit
+pub mod Gone

@@ -12,8 +12,11 @@ use Rattle.cdc_token.specs.Pieces.{Is, IsPiece, NoPiece, Piece, Leads, size, say
 use Rattle.cdc_token.specs.Tokens.{Item, meaning, items_of}
 use Rattle.cdc_token.specs.Refusals.{IsBad, IsOpenText, IsStray, Wrong, IsWrong, Here, Seen}
 use Rattle.cdc_token.specs.Logical.{line_items}
-use Rattle.cdc_token.specs.Values.{FirstWrong, NothingWrong}
-use Rattle.cdc_token.specs.Taking.{whole, Takes, TakesPieces, FirstSeen, IsStop}
+use Rattle.cdc_token.specs.declared.fault.LineRefusal.{LineRefusal}
+use Rattle.cdc_token.specs.declared.fault.LineRefusal.TheVariants.{At, Memory}
+use Rattle.cdc_token.specs.declared.meaning.Meaning.{Meaning}
+use Rattle.cdc_token.specs.Values.{FirstWrong, Rejects, NothingWrong}
+use Rattle.cdc_token.specs.Taking.{whole, Takes, TakesPieces, FirstSeen, Sees, IsStop}
 use Rattle.cdc_token.proofs.Longest.{by_first}
 
 -- ---- one piece begins at a place
@@ -247,3 +250,33 @@ module _ {was : Bool} {line : List ℕ} {number : ℕ} {old new : Gathered} {col
           same = λ more. takes (later ++ more) ∙ ap (whole new) (sym (append_assoc here later more)) ∙ w.same more;
         };
   }
+
+  -- the same, from what the calls of the loop give
+  pub reached_step : (k : Kind) (f m : List ℕ) (n : ℕ) (next : Gathered) (means : Meaning) (first2 on2 : Bool) → rest ≡ f ++ m → IsPiece k f m → NothingWrong k f → (k ≡ Mark → MayMark first m)
+      → means ≡ meaning k f → Takes new next (items_of (record { line = number; column = column }) means)
+      → length f ≡ n → first2 ≡ still_first k first → on2 ≡ still_open k on
+      → Reached was line number old next (column + n) first2 on2 m
+  reached_step k f m n next means first2 on2 e piece right fine is takes long is_first is_on =
+      let taken : Takes new next (items_of (record { line = number; column = column }) (meaning k f)) = subst (λ w. Takes new next (items_of (record { line = number; column = column }) w)) is takes in
+      let more = reached_more k f m next e piece right fine taken in
+      let at : Reached was line number old next (column + n) (still_first k first) (still_open k on) m = subst (λ l. Reached was line number old next (column + l) (still_first k first) (still_open k on) m) long more in
+      let front : Reached was line number old next (column + n) first2 (still_open k on) m = subst (λ b. Reached was line number old next (column + n) b (still_open k on) m) (sym is_first) at in
+      subst (λ b. Reached was line number old next (column + n) first2 b m) (sym is_on) front
+
+  pub stop_seen : (d : Fault) → NoPiece rest → IsStop rest d → FirstSeen was line d column
+  stop_seen d none stop = let at : column + 0 ≡ column = omega arith in subst (FirstSeen was line d) at (fault_here d 0 (stop_here first rest d none stop))
+
+  pub stray_seen : (k : Kind) (f m : List ℕ) → rest ≡ f ++ m → IsPiece k f m → (k ≡ Mark) × (first ≡ false) × (says_nothing m ≡ false) → FirstSeen was line BadByte column
+  stray_seen k f m e piece stray =
+      let at : column + 0 ≡ column = omega arith in
+      let here : FirstHere first rest BadByte 0 = subst (λ z. FirstHere first z BadByte 0) (sym e) (stray_here first k f m piece stray) in
+      subst (FirstSeen was line BadByte) at (fault_here BadByte 0 here)
+
+  pub wrong_seen : (k : Kind) (f m : List ℕ) → rest ≡ f ++ m → IsPiece k f m → (refusal : LineRefusal) → Rejects k f column refusal → Sees was line refusal
+  wrong_seen k f m e piece Memory rejects = tt
+  wrong_seen k f m e piece (At d c) w =
+      let here : FirstHere first rest d w.behind = subst (λ z. FirstHere first z d w.behind) (sym e) (wrong_here column first k f m d c piece w) in
+      subst (FirstSeen was line d) (sym w.place) (fault_here d w.behind here)
+
+pub piece_of : (k : Kind) (n : ℕ) (z f m : List ℕ) → f ≡ take n z → m ≡ drop n z → IsPiece k (take n z) (drop n z) → IsPiece k f m
+piece_of k n z f m front back piece = subst (λ g. IsPiece k g m) (sym front) (subst (λ r. IsPiece k (take n z) r) (sym back) piece)

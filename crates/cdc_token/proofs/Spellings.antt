@@ -38,9 +38,9 @@ front_here s more z on = record {
 front_later : (s : Spelling) (more : List Spelling) (z : List ℕ) (y : symbols.Symbol) (n : ℕ) → fits s z ≡ false → Front more z y n → Front (s ∷ more) z y n
 front_later s more z y n off rec =
     by_test (str_eq_ignore_ascii_case s.0 (take n z))
-    (λ yes.
-    let size : length s.0 ≡ n = same_length s.0 (take n z) yes ∙ length-take-le n z rec.within in
-    absurd (true≢false (sym yes ∙ ap (λ k. str_eq_ignore_ascii_case s.0 (take k z)) (sym size) ∙ off)))
+    (λ alike.
+    let size : length s.0 ≡ n = same_length s.0 (take n z) alike ∙ length-take-le n z rec.within in
+    absurd (true≢false (sym alike ∙ ap (λ k. str_eq_ignore_ascii_case s.0 (take k z)) (sym size) ∙ off)))
     (λ no'. record { within = rec.within; is = rw no' rec.is })
 
 pub front_is : (more : List Spelling) (z : List ℕ) (y : symbols.Symbol) (n : ℕ) → first_fit more z ≡ Some (y, n) → Front more z y n
@@ -61,7 +61,7 @@ passing : (test : Spelling → Bool) (more : List Spelling) (front : List ℕ) (
 passing test [] front y all h = absurd (cc)
 passing test (s ∷ more) front y all h =
     let parts = and_parts (test s) (list_all test more) all in
-    by_test (str_eq_ignore_ascii_case s.0 front) (λ yes. record { spelling = s; passes = parts.0; same = yes }) (λ no'. passing test more front y parts.1 (rw no' at h))
+    by_test (str_eq_ignore_ascii_case s.0 front) (λ alike. record { spelling = s; passes = parts.0; same = alike }) (λ no'. passing test more front y parts.1 (rw no' at h))
 
 abbrev no_longer : Spelling → Spelling → Bool
 no_longer s t = leb (length t.0) (length s.0)
@@ -80,10 +80,10 @@ longest [] f r y fall h = absurd (cc)
 longest (s ∷ more) f r y fall h =
     let parts = and_parts (list_all (no_longer s) more) (falling more) fall in
     by_test (str_eq_ignore_ascii_case s.0 f)
-    (λ yes.
-    let size = same_length s.0 f yes in
+    (λ alike.
+    let size = same_length s.0 f alike in
     let front : take (length s.0) (f ++ r) ≡ f = ap (λ k. take k (f ++ r)) size ∙ take-append_seam f r in
-    let here : fits s (f ++ r) ≡ true = ap (str_eq_ignore_ascii_case s.0) front ∙ yes in
+    let here : fits s (f ++ r) ≡ true = ap (str_eq_ignore_ascii_case s.0) front ∙ alike in
     record { found = (s.1, length s.0); is = rw here refl; long = omega (arith, size) })
     (λ no'.
     by_test (fits s (f ++ r))

@@ -6,7 +6,7 @@ ghost use Rattle.cdc_token.specs.declared.fault.LineRefusal.TheVariants.{Memory}
 
 use crate::token::LexRefusal;
 use cdc_base::Place;
-use std::alloc::{AllocError, AllocFailed};
+use std::alloc::AllocError;
 
 /// What is wrong at a column of a line.
 #[derive(Clone, Copy, Debug, PartialEq, Eq)]
@@ -29,14 +29,6 @@ impl From<AllocError> for LineRefusal {
     ghost from_gives = { λ _ e. e ≡ Memory };
 
     fn from(_error: AllocError) -> LineRefusal {
-        LineRefusal::Memory
-    }
-}
-
-impl<T: Drop> From<AllocFailed<T>> for LineRefusal {
-    ghost from_gives = { λ _ e. e ≡ Memory };
-
-    fn from(_error: AllocFailed<T>) -> LineRefusal {
         LineRefusal::Memory
     }
 }

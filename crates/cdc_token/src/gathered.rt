@@ -3,11 +3,10 @@
 ghost use Rattle.std.specs.Prelude.{◌≡◌, ◌∷◌, [], OnOk, None};
 ghost use Rattle.cdc_token.specs.Tokens.{items_of};
 
-use crate::fault::LineRefusal;
 use crate::meaning::Meaning;
-use crate::token::{Lexed, Line, Token};
+use crate::token::{Lexed, Line};
 use cdc_base::{List, Place};
-use std::alloc::Global;
+use std::alloc::{AllocError, Global};
 use std::mem;
 
 /// The logical lines that have ended, and the tokens of the one that is begun.
@@ -31,7 +30,7 @@ impl Gathered {
     }
 
     /// Ends the logical line that is begun, if it has a token.
-    pub fn close(&mut self, alloc: Global) -> Result<(), LineRefusal>
+    pub fn close(&mut self, alloc: Global) -> Result<(), AllocError>
         ensures taken { OnOk result (spec.Takes self.old self.new (None ∷ [])) }
         ensures empty { OnOk result (self.new.begun.items ≡ []) }
     {
@@ -48,7 +47,7 @@ impl Gathered {
     }
 
     /// Takes what a piece at this place means.
-    pub fn add(&mut self, alloc: Global, meaning: Meaning, place: Place) -> Result<(), LineRefusal>
+    pub fn add(&mut self, alloc: Global, meaning: Meaning, place: Place) -> Result<(), AllocError>
         ensures { OnOk result (spec.Takes self.old self.new (items_of place meaning)) }
     {
         match meaning {
