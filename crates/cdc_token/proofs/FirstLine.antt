@@ -1,10 +1,10 @@
 -- The first line of a source.
-use Rattle.std.proofs.Common.{◌≡◌, ℕ, ◌+◌, ◌-◌, ◌≤◌, ◌<◌, Bool, true, false, not, cond, eqb, List, [], ◌∷◌, length, get_or, take, drop, sym, refl, ap, ◌∙◌, arith}
+use Rattle.std.proofs.Common.{◌≡◌, ℕ, ◌+◌, ◌-◌, ◌≤◌, ◌<◌, Bool, false, cond, eqb, List, [], ◌∷◌, length, get_or, take, drop, sym, refl, ap, ◌∙◌, arith}
 use Rattle.std.proofs.lemmas.Bool.{not-true, ne_eqb}
 use Rattle.std.proofs.lemmas.List.{length-drop, take_all, nil_from_length, drop-drop}
 use Rattle.std.proofs.lemmas.List.Splits.{slice_split_none, slice_split_first}
 use Rattle.std.proofs.lemmas.List.Sums.{prefix_len_passes}
-use Rattle.std.specs.List.{prefix_len, slice_split, onto_first, All, before_first, after_first}
+use Rattle.std.specs.List.{prefix_len, slice_split, onto_first, All}
 use Rattle.std.specs.Str.Lines.{lines, lines_of_parts, strip_carriage_return}
 use Rattle.cdc_token.specs.Cutting.{is_inner}
 use Rattle.cdc_token.proofs.Spellings.{by_test}

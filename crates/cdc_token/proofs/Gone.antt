@@ -1,5 +1,5 @@
 -- The loop over the lines: what is left from here is the whole from the start.
-use Rattle.std.proofs.Common.{◌≡◌, ◌⊎◌, ℕ, ◌+◌, ◌≤◌, ◌<◌, Bool, true, false, List, [], ◌∷◌, ◌++◌, length, append-nil, length-append, None, sym, refl, ap, ◌∙◌, subst, inl, inr, ⊎_elim, arith}
+use Rattle.std.proofs.Common.{◌≡◌, ℕ, ◌+◌, ◌≤◌, ◌<◌, Bool, false, List, [], ◌∷◌, ◌++◌, length, append-nil, length-append, None, sym, refl, ap, ◌∙◌, subst, inl, inr, arith}
 use Rattle.std.specs.List.{AllZip}
 use Rattle.std.specs.Str.Lines.{lines}
 use Rattle.cdc_base.specs.declared.place.Place.{Place}
@@ -10,7 +10,7 @@ use Rattle.cdc_token.specs.declared.fault.LineRefusal.TheVariants.{At, Memory}
 use Rattle.cdc_token.specs.declared.token.LexRefusal.{LexRefusal}
 use Rattle.cdc_token.specs.declared.gathered.Gathered.{Gathered}
 use Rattle.cdc_token.specs.Pieces.{IsPiece, Piece, Leads, goes_on}
-use Rattle.cdc_token.specs.Refusals.{Holds, HoldsIn, HoldsAt, ComesFirst, IsFirst, NoFault, IsRefused}
+use Rattle.cdc_token.specs.Refusals.{HoldsIn, HoldsAt, ComesFirst, IsFirst, IsRefused}
 use Rattle.cdc_token.specs.Logical.{line_items, ending, items, gather, AreLogicalLines}
 use Rattle.cdc_token.specs.Taking.{whole, Takes, TakesLine, FirstHeld, Fails, refusal, in_line}
 use Rattle.cdc_token.proofs.Reached.{kind_once, piece_once, nonempty}

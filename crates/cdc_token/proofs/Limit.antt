@@ -1,12 +1,11 @@
 -- A line that is too long, and the end of a line.
-use Rattle.std.proofs.Common.{◌≡◌, ◌⊎◌, ℕ, ◌≤◌, ◌<◌, Bool, true, false, ◌||◌, cond, ltb, leb, List, [], ◌∷◌, ◌++◌, length, append_assoc, append-nil, None, Result, Ok, Err, IfOk, IfErr, sym, refl, ap, ◌∙◌, subst, inl, inr, ⊎_elim, arith}
+use Rattle.std.proofs.Common.{◌≡◌, ◌⊎◌, ℕ, ◌≤◌, ◌<◌, Bool, true, false, ◌||◌, ltb, leb, List, [], ◌∷◌, ◌++◌, length, append_assoc, append-nil, None, Result, Ok, Err, IfOk, IfErr, sym, refl, ap, ◌∙◌, subst, inl, inr, ⊎_elim, arith}
 use Rattle.std.proofs.lemmas.Bool.{or_cases, or_parts, ltb-true, ltb-false, leb-true, leb-false}
 use Rattle.cdc_token.specs.declared.fault.Fault.{Fault}
 use Rattle.cdc_token.specs.declared.fault.Fault.TheVariants.{LineLong}
 use Rattle.cdc_token.specs.declared.fault.LineRefusal.{LineRefusal}
 use Rattle.cdc_token.specs.declared.fault.LineRefusal.TheVariants.{At, Memory}
 use Rattle.cdc_token.specs.declared.gathered.Gathered.{Gathered}
-use Rattle.cdc_token.specs.Tokens.{Item}
 use Rattle.cdc_token.specs.Refusals.{Seen, Holds}
 use Rattle.cdc_token.specs.Logical.{line_items, ending}
 use Rattle.cdc_token.specs.Taking.{whole, Takes, TakesPieces, TakesLine, FirstSeen, Sees, FirstHeld, Fails, with_limit}

@@ -1,7 +1,7 @@
 -- The cut at the front is the longest piece, and where there is none no piece begins.
-use Rattle.std.proofs.Common.{◌≡◌, ◌⊎◌, ℕ, zero, suc, ◌+◌, ◌≤◌, ◌<◌, Bool, true, false, not, ◌&&◌, cond, eqb, ltb, leb, List, [], ◌∷◌, ◌++◌, length, get_or, take, drop, append_assoc, append-nil, take-append-drop, length-append, Option, Some, None, sym, refl, ap, ◌∙◌, subst, inl, inr, ⊎_elim, arith, IsSome, IfSome, IfNone}
+use Rattle.std.proofs.Common.{◌≡◌, ℕ, zero, suc, ◌+◌, ◌≤◌, ◌<◌, Bool, true, false, eqb, List, [], ◌∷◌, ◌++◌, length, get_or, take, drop, append_assoc, append-nil, take-append-drop, length-append, Option, Some, None, sym, refl, ap, ◌∙◌, subst, arith, IfSome, IfNone}
 use Rattle.std.proofs.lemmas.Grind.{common_steps}
-use Rattle.std.proofs.lemmas.Bool.{cases_Bool, eqb-true, eqb-false, ne_eqb}
+use Rattle.std.proofs.lemmas.Bool.{eqb-true, eqb-false, ne_eqb}
 use Rattle.std.specs.List.{prefix_len, AllByRecursion}
 use Rattle.std.specs.Char.{is_ascii_digit, is_ascii_alphabetic}
 use Rattle.std.proofs.lemmas.List.Folds.{length-prefix_len}
@@ -10,8 +10,8 @@ use Rattle.std.proofs.Math.Seq.{take-append_seam, drop-append_seam}
 use Rattle.cdc_token.specs.declared.piece.Kind.{Kind}
 use Rattle.cdc_token.specs.declared.piece.Kind.TheVariants.{Blank, Comment, Text, Name, Number, Symbol, Mark, Semicolon}
 use Rattle.cdc_token.specs.declared.token.Symbol as symbols
-use Rattle.cdc_token.specs.Bytes.{is_blank, is_word, is_quote, BeginsWith, BeginsQuote}
-use Rattle.cdc_token.specs.Symbols.{spellings, symbol}
+use Rattle.cdc_token.specs.Bytes.{is_blank, is_word, is_quote, BeginsWith}
+use Rattle.cdc_token.specs.Symbols.{spellings}
 use Rattle.cdc_token.specs.Pieces.{doubled, Is, MayEnd, IsPiece, NoPiece}
 use Rattle.cdc_token.specs.Cutting.{kind_at, closing, first_fit, second, len, paired, cut}
 use Rattle.cdc_token.proofs.Spellings.{by_test, some_same, Front, symbol_none, symbol_first, symbol_longest, front_is}

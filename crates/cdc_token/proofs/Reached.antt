@@ -1,16 +1,15 @@
 -- The loop over a line: what is left from here is the whole from the start.
-use Rattle.std.proofs.Common.{◌≡◌, ◌⊎◌, ℕ, ◌+◌, ◌≤◌, ◌<◌, Bool, true, false, List, [], ◌∷◌, ◌++◌, length, take, drop, append_assoc, length-append, take-append-drop, length-take-le, get_or, sym, refl, ap, ◌∙◌, subst, inl, inr, ⊎_elim, arith}
-use Rattle.std.proofs.lemmas.Bool.{cases_order, false≢true}
+use Rattle.std.proofs.Common.{◌≡◌, ◌⊎◌, ℕ, ◌+◌, ◌≤◌, ◌<◌, Bool, true, false, List, [], ◌∷◌, ◌++◌, length, take, drop, append_assoc, length-append, sym, refl, ap, ◌∙◌, subst, inl, inr, ⊎_elim, arith}
+use Rattle.std.proofs.lemmas.Bool.{false≢true}
 use Rattle.std.proofs.Math.Seq.{take-append_seam, drop-append_seam}
 use Rattle.cdc_token.specs.declared.piece.Kind.{Kind}
-use Rattle.cdc_token.specs.declared.piece.Kind.TheVariants.{Blank, Comment, Text, Name, Number, Symbol, Mark, Semicolon}
+use Rattle.cdc_token.specs.declared.piece.Kind.TheVariants.{Mark}
 use Rattle.cdc_token.specs.declared.fault.Fault.{Fault}
 use Rattle.cdc_token.specs.declared.fault.Fault.TheVariants.{BadByte, OpenText, NameLong, NumberWide, LineLong}
 use Rattle.cdc_token.specs.declared.gathered.Gathered.{Gathered}
-use Rattle.cdc_token.specs.Bytes.{BeginsQuote}
 use Rattle.cdc_token.specs.Pieces.{Is, IsPiece, NoPiece, Piece, Leads, size, says_nothing, still_first, stays_first, still_open, goes_on}
 use Rattle.cdc_token.specs.Tokens.{Item, meaning, items_of}
-use Rattle.cdc_token.specs.Refusals.{IsBad, IsOpenText, IsStray, Wrong, IsWrong, Here, Seen}
+use Rattle.cdc_token.specs.Refusals.{IsStray, Wrong, IsWrong, Here, Seen}
 use Rattle.cdc_token.specs.Logical.{line_items}
 use Rattle.cdc_token.specs.declared.fault.LineRefusal.{LineRefusal}
 use Rattle.cdc_token.specs.declared.fault.LineRefusal.TheVariants.{At, Memory}
@@ -182,11 +181,13 @@ seen_nothing column first d c seen = cases seen.pieces seen.rest seen.behind see
   where
     short : (p : Piece) (more : List ℕ) → [] ≡ p.1 ++ more → IsPiece p.0 p.1 more → ⊥
     short p more e is = let some = nonempty p.0 p.1 is.kind in omega (arith, some, ap length e, length-append p.1 more)
+
     nothing : (on : Bool) (i : ℕ) → Here on [] d i → ⊥
     nothing on i (inl (is, at, bad)) = let some = bad.some in omega (arith, some)
     nothing on i (inr (inl (is, at, stray))) = omega (arith, ap length stray.mark)
     nothing on i (inr (inr (inl (is, at, open_text)))) = open_text.quote
     nothing on i (inr (inr (inr w))) = short (w.kind, w.front) w.rest w.here w.piece
+
     cases : (ps : List Piece) (rest : List ℕ) (i : ℕ) → Leads ps [] rest → Here (stays_first first ps) rest d i → ⊥
     cases [] rest i e here = nothing first i (subst (λ z. Here first z d i) (sym e) here)
     cases (p ∷ ps) rest i (more, e, is, leads) here = short p more e is

@@ -1,5 +1,5 @@
 -- The values of pieces.
-use Rattle.std.proofs.Common.{◌≡◌, ◌⊎◌, ℕ, zero, suc, ◌+◌, ◌-◌, ◌*◌, ◌^◌, ◌≤◌, ◌<◌, Bool, true, false, not, ◌&&◌, cond, eqb, ltb, List, [], ◌∷◌, ◌++◌, length, get_or, take, drop, length-append, Option, Some, None, Result, Ok, Err, IfOk, sym, refl, ap, ◌∙◌, subst, inl, inr, ⊎_elim, arith}
+use Rattle.std.proofs.Common.{◌≡◌, ℕ, suc, ◌+◌, ◌-◌, ◌*◌, ◌^◌, ◌≤◌, ◌<◌, Bool, true, false, not, eqb, ltb, List, [], ◌∷◌, ◌++◌, length, get_or, take, drop, length-append, Some, None, Result, Ok, Err, IfOk, sym, refl, ap, ◌∙◌, inl, inr, ⊎_elim, arith}
 use Rattle.std.proofs.lemmas.Grind.{common_steps}
 use Rattle.std.proofs.lemmas.Bool.{eqb-true, not-true, not-false, false≢true, cases_order, ltb-false}
 use Rattle.std.proofs.lemmas.List.Quantifiers.{position-Some}
@@ -18,7 +18,7 @@ use Rattle.cdc_token.specs.Bytes.{is_shown}
 use Rattle.cdc_token.specs.Symbols.{spellings, symbol}
 use Rattle.cdc_token.specs.Pieces.{doubled, Is}
 use Rattle.cdc_token.specs.Tokens.{content, undoubled, meaning, symbol_meaning}
-use Rattle.cdc_token.specs.Values.{number_after, kept, halved, FirstWrong, NothingWrong}
+use Rattle.cdc_token.specs.Values.{number_after, halved, FirstWrong, NothingWrong}
 use Rattle.cdc_token.specs.Cutting.{first_fit}
 use Rattle.cdc_token.proofs.Spellings.{by_test, symbol_whole, symbol_found}
 

@@ -1,5 +1,5 @@
 -- What a piece means: a token, the end of a logical line, or nothing.
-use Rattle.std.specs.Prelude.{◌≡◌, ℕ, if◌then◌else◌, ◌==◌, List, [], ◌∷◌, map, Option, Some, None, pos}
+use Rattle.std.specs.Prelude.{ℕ, if◌then◌else◌, ◌==◌, List, [], ◌∷◌, map, Option, Some, None, pos}
 use Rattle.std.specs.Char.{to_ascii_uppercase}
 use Rattle.std.specs.Str.Parse.{digits_value}
 use Rattle.cdc_base.specs.declared.place.Place.{Place}

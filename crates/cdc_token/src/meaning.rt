@@ -62,9 +62,7 @@ fn text_meaning(alloc: Global, bytes: &[u8], column: u32) -> Result<Meaning, Lin
 {
     match bad_byte(bytes) {
         Some(behind) => Err(LineRefusal::At(Fault::BadByte, column + behind as u32)),
-        None => Ok(Meaning::Token(Token::Text(List::of(content(
-            alloc, bytes,
-        )?)))),
+        None => Ok(Meaning::Token(Token::Text(List::of(content(alloc, bytes)?)))),
     }
 }
 

@@ -1,4 +1,4 @@
-use Rattle.std.proofs.Common.{arith, refl}
+use Rattle.std.proofs.Common.{refl}
 use Rattle.std.proofs.lemmas.Result.{err_from_is_err_and}
 use Rattle.cdc_token.proofs.Limit.{limit_fails, limit_takes, line_ends, line_goes_on}
 use Rattle.cdc_token.proofs.line.take_line.Goals as goal

@@ -1,4 +1,4 @@
-use Rattle.std.proofs.Common.{arith, ap, ◌∙◌, sym, pos}
+use Rattle.std.proofs.Common.{arith, ap, pos}
 use Rattle.std.proofs.lemmas.Grind.{common_steps}
 use Rattle.cdc_token.proofs.Values.{wide_number, fitting_number, number_value}
 use Rattle.cdc_token.proofs.meaning.number_meaning.Goals as goal
