@@ -1,5 +1,5 @@
 -- The loop over the lines: what is left from here is the whole from the start.
-use Rattle.std.proofs.Common.{◌≡◌, ℕ, ◌+◌, ◌≤◌, ◌<◌, Bool, false, List, [], ◌∷◌, ◌++◌, length, append-nil, length-append, None, sym, refl, ap, ◌∙◌, subst, inl, inr, arith}
+use Rattle.std.proofs.Common.{◌≡◌, ℕ, ◌+◌, ◌≤◌, ◌<◌, Bool, false, List, [], ◌∷◌, ◌++◌, length, append-nil, None, sym, refl, ap, ◌∙◌, subst, inl, inr, arith}
 use Rattle.std.specs.List.{AllZip}
 use Rattle.std.specs.Str.Lines.{lines}
 use Rattle.cdc_base.specs.declared.place.Place.{Place}
@@ -9,28 +9,11 @@ use Rattle.cdc_token.specs.declared.fault.LineRefusal.{LineRefusal}
 use Rattle.cdc_token.specs.declared.fault.LineRefusal.TheVariants.{At, Memory}
 use Rattle.cdc_token.specs.declared.token.LexRefusal.{LexRefusal}
 use Rattle.cdc_token.specs.declared.gathered.Gathered.{Gathered}
-use Rattle.cdc_token.specs.Pieces.{IsPiece, Piece, Leads, goes_on}
+use Rattle.cdc_token.specs.Pieces.{Piece, Leads, goes_on}
 use Rattle.cdc_token.specs.Refusals.{HoldsIn, HoldsAt, ComesFirst, IsFirst, IsRefused}
 use Rattle.cdc_token.specs.Logical.{line_items, ending, items, gather, AreLogicalLines}
 use Rattle.cdc_token.specs.Taking.{whole, Takes, TakesLine, FirstHeld, Fails, refusal, in_line}
-use Rattle.cdc_token.proofs.Reached.{kind_once, piece_once, nonempty}
-
--- ---- a line has one list of pieces
-
-begins_none : (p : Piece) (more line : List ℕ) → line ≡ p.1 ++ more → IsPiece p.0 p.1 more → line ≡ [] → ⊥
-begins_none p more line e is none = let some = nonempty p.0 p.1 is.kind in omega (arith, some, ap length e, ap length none, length-append p.1 more)
-
-pub one_reading : (ps qs : List Piece) (line : List ℕ) → Leads ps line [] → Leads qs line [] → ps ≡ qs
-one_reading [] [] line e f = refl
-one_reading [] (q ∷ qs) line none (more, e, is, leads) = absurd (begins_none q more line e is none)
-one_reading (p ∷ ps) [] line (more, e, is, leads) none = absurd (begins_none p more line e is none)
-one_reading (p ∷ ps) (q ∷ qs) line (more, e, is, leads) (more2, e2, is2, leads2) =
-    let meet : p.1 ++ more ≡ q.1 ++ more2 = sym e ∙ e2 in
-    let same = piece_once p.0 q.0 p.1 q.1 more more2 is is2 meet in
-    let kind : p.0 ≡ q.0 = kind_once p.0 q.0 p.1 q.1 more more2 is.kind is2.kind meet in
-    let rest : ps ≡ qs = one_reading ps qs more2 (subst (λ w. Leads ps w []) same.rest leads) leads2 in
-    let front : p.1 ≡ q.1 = same.front in
-    λ i. (kind i, front i) ∷ rest i
+use Rattle.cdc_token.proofs.Laws.{one_reading}
 
 -- ---- the lines that are left
 

@@ -4,4 +4,5 @@ pub mod FirstLine
 pub mod Values
 pub mod Reached
 pub mod Limit
+pub mod Laws
 pub mod Gone

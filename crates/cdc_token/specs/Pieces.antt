@@ -1,4 +1,4 @@
--- What the bytes of a line are: pieces, each the longest that begins at its place.
+-- What the bytes of a line are: pieces, each the longest that begins at its place (ISO/IEC 1539:1991, sections 3.2 and 3.3.1).
 use Rattle.std.specs.Prelude.{◌≡◌, ◌≤◌, ℕ, ◌+◌, Bool, true, false, ◌&&◌, ◌||◌, if◌then◌else◌, ◌==◌, List, [], ◌∷◌, ◌++◌, length, Some}
 use Rattle.std.specs.Char.{is_ascii_digit, is_ascii_alphabetic}
 use Rattle.std.specs.List.{AllByRecursion}

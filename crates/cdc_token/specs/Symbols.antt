@@ -1,4 +1,4 @@
--- How the symbols are written (ISO/IEC 1539:1991, sections 3.2.4 and 3.2.5).
+-- How the symbols are written (ISO/IEC 1539:1991, sections 3.2.3 and 3.2.5).
 use Rattle.std.specs.Prelude.{ℕ, if◌then◌else◌, List, [], ◌∷◌, codes, Option, Some, None}
 use Rattle.std.specs.Str.{str_eq_ignore_ascii_case}
 use Rattle.cdc_token.specs.declared.token.Symbol as symbols
@@ -8,7 +8,7 @@ use Rattle.cdc_token.specs.declared.token.Symbol.TheVariants.{LeftParen, RightPa
 abbrev pub Spelling : Type 0
 Spelling = List ℕ × symbols.Symbol
 
--- the longer ones first
+-- each spelling, letters in upper case; the longer ones come first
 unfoldable pub spellings : List Spelling
 spellings =
     (codes ".NOT.", Not) ∷ (codes ".AND.", And)

@@ -12,7 +12,7 @@ use Rattle.cdc_token.specs.declared.meaning.Meaning.{Meaning}
 use Rattle.cdc_token.specs.declared.meaning.Meaning.TheVariants.{Nothing, End, Token}
 use Rattle.cdc_token.specs.Symbols.{symbol}
 
--- what stands before the closing quote q, each doubled one as one
+-- what stands before the closing quote q, each doubled one as one: it undoes `doubled`
 abbrev pub undoubled : ℕ → List ℕ → List ℕ
 undoubled q [] = []
 undoubled q (b ∷ []) = []

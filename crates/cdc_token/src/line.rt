@@ -13,6 +13,9 @@ use crate::piece::{Kind, piece_at};
 use cdc_base::Place;
 use std::alloc::Global;
 
+/// The most bytes of a line, its end aside (ISO/IEC 1539:1991, section 3.3.1).
+const MAX_LINE: usize = 132;
+
 /// Blanks, and then nothing or a comment.
 fn says_nothing(z: &[u8]) -> bool
     ensures { result ≡ pieces.says_nothing z.now }
@@ -28,20 +31,22 @@ fn says_nothing(z: &[u8]) -> bool
     true
 }
 
-fn still_first(kind: Kind, was: bool) -> bool
-    ensures { result ≡ pieces.still_first kind was }
+/// A mark may stand behind this piece as the first byte of a line that is continued to.
+fn still_first(kind: Kind, first: bool) -> bool
+    ensures { result ≡ pieces.still_first kind first }
 {
     match kind {
-        Kind::Blank => was,
+        Kind::Blank => first,
         _ => false,
     }
 }
 
-fn still_open(kind: Kind, was: bool) -> bool
-    ensures { result ≡ pieces.still_open kind was }
+/// Whether the line is continued, as far as this piece; blanks and comments leave it as it was.
+fn still_open(kind: Kind, goes_on: bool) -> bool
+    ensures { result ≡ pieces.still_open kind goes_on }
 {
     match kind {
-        Kind::Blank | Kind::Comment => was,
+        Kind::Blank | Kind::Comment => goes_on,
         Kind::Mark => true,
         Kind::Semicolon | Kind::Text | Kind::Name | Kind::Number | Kind::Symbol => false,
     }
@@ -71,22 +76,23 @@ fn nothing_begins(z: &[u8]) -> Fault
     }
 }
 
-/// Takes the pieces of a line, or gives the first fault among them. The answer: the line is continued.
+/// Takes the pieces of the line of this number, or gives the first fault among them. The flag: the line before is continued.
+/// The answer: this one is.
 fn take_pieces(
     gathered: &mut Gathered,
     alloc: Global,
     number: u32,
-    was: bool,
+    continued: bool,
     line: &[u8],
 ) -> Result<bool, LineRefusal>
     requires { length line.now < 2 ^ 20 }
-    ensures ok { IfOk result (λ on. spec.TakesPieces was line.now number gathered.old gathered.new on) }
-    ensures seen { IfErr result (λ e. spec.Sees was line.now e) }
+    ensures ok { IfOk result (λ on. spec.TakesPieces continued line.now number gathered.old gathered.new on) }
+    ensures seen { IfErr result (λ e. spec.Sees continued line.now e) }
 {
     let mut rest = line;
     let mut column = 1;
-    let mut first = was;
-    let mut on = was;
+    let mut first = continued;
+    let mut goes_on = continued;
     while !rest.is_empty() {
         let Some((kind, n)) = piece_at(rest) else {
             return Err(LineRefusal::At(nothing_begins(rest), column));
@@ -102,42 +108,44 @@ fn take_pieces(
         };
         gathered.add(alloc, means, place)?;
         first = still_first(kind, first);
-        on = still_open(kind, on);
+        goes_on = still_open(kind, goes_on);
         column += n as u32;
         rest = after;
     }
-    Ok(on)
+    Ok(goes_on)
 }
 
-/// The first fault of a line, by the first one among its pieces. A line has at most 132 bytes.
+/// The first fault of a line, by the first one among its pieces: that the line is too long may come before it.
 fn with_limit(seen: Result<bool, LineRefusal>, len: usize) -> Result<bool, LineRefusal>
     ensures { result ≡ spec.with_limit len seen }
 {
     match seen {
         Err(LineRefusal::Memory) => Err(LineRefusal::Memory),
-        Err(LineRefusal::At(fault, column)) if column < 133 || len <= 132 => {
+        Err(LineRefusal::At(fault, column)) if column <= MAX_LINE as u32 || len <= MAX_LINE => {
             Err(LineRefusal::At(fault, column))
         }
-        Ok(on) if len <= 132 => Ok(on),
-        _ => Err(LineRefusal::At(Fault::LineLong, 133)),
+        Ok(goes_on) if len <= MAX_LINE => Ok(goes_on),
+        _ => Err(LineRefusal::At(Fault::LineLong, MAX_LINE as u32 + 1)),
     }
 }
 
-/// Takes a line, or gives its first fault. The answer: the line is continued.
+/// Takes the line of this number, or gives its first fault; want of memory may come at any time.
+/// The flag: the line before is continued. The answer: this one is.
 pub fn take_line(
     gathered: &mut Gathered,
     alloc: Global,
     number: u32,
-    was: bool,
+    continued: bool,
     line: &[u8],
 ) -> Result<bool, LineRefusal>
     requires { length line.now < 2 ^ 20 }
-    ensures ok { IfOk result (λ on. spec.TakesLine was line.now number gathered.old gathered.new on) }
-    ensures fault { IfErr result (λ e. spec.Fails was line.now e) }
+    ensures ok { IfOk result (λ on. spec.TakesLine continued line.now number gathered.old gathered.new on) }
+    ensures fault { IfErr result (λ e. spec.Fails continued line.now e) }
 {
-    let on = with_limit(take_pieces(gathered, alloc, number, was, line), line.len())?;
-    if !on {
+    let seen = take_pieces(gathered, alloc, number, continued, line);
+    let goes_on = with_limit(seen, line.len())?;
+    if !goes_on {
         gathered.close(alloc)?;
     }
-    Ok(on)
+    Ok(goes_on)
 }

@@ -13,6 +13,9 @@ use crate::value::{bad_byte, number, upper_case, without_seconds};
 use cdc_base::List;
 use std::alloc::{AllocError, Global};
 
+/// The most characters of a name (ISO/IEC 1539:1991, section 3.2.1).
+const MAX_NAME: usize = 31;
+
 /// What a piece gives to the logical lines.
 #[derive(Debug, Drop)]
 pub enum Meaning {
@@ -27,7 +30,7 @@ fn name_meaning(alloc: Global, bytes: &[u8], column: u32) -> Result<Meaning, Lin
     ensures ok { IfOk result (λ m. (m ≡ spec.meaning Kind.Name bytes.now) × values.NothingWrong Kind.Name bytes.now) }
     ensures wrong { IfErr result (λ e. values.Rejects Kind.Name bytes.now column e) }
 {
-    if 31 < bytes.len() {
+    if MAX_NAME < bytes.len() {
         return Err(LineRefusal::At(Fault::NameLong, column));
     }
     Ok(Meaning::Token(Token::Name(List::of(upper_case(alloc, bytes)?))))

@@ -25,7 +25,7 @@ loop-rest-preserved c =
     let parts = c.split_at.ensures in
     let piece = piece_of _ _ _ _ _ parts.front parts.back c.in-Some.ensures.found in
     let means = c.in_ok-means.ensures.ok in
-    reached_step c.loop-rest.invariant _ _ _ _ _ _ _ _ parts.by_index.0 piece means.1 (c.is_stray.ensures.fine c.if-is_stray.false) means.0 c.in_ok-add.ensures parts.front_len c.still_first-first.ensures c.still_open-on.ensures
+    reached_step c.loop-rest.invariant _ _ _ _ _ _ _ _ parts.by_index.0 piece means.1 (c.is_stray.ensures.fine c.if-is_stray.false) means.0 c.in_ok-add.ensures parts.front_len c.still_first-first.ensures c.still_open-goes_on.ensures
 
 pub returns-clause-ok : goal.returns-clause-ok
 returns-clause-ok c = reached_end c.loop-rest.invariant (nil_from_length _ (true-eqb (length c.loop-rest.rest.now) 0 c.loop-rest-test.ensures))
