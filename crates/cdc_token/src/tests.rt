@@ -190,86 +190,69 @@ fn refuses_the_first_fault(rt: HostRuntime) -> Result<(), Fail> {
     Ok(())
 }
 
-// A second line of this many bytes, blanks behind its front, and an end.
-fn long_line(alloc: Global, len: usize, front: &[u8], end: &[u8]) -> Result<Vec<u8>, Fail> {
-    let mut source = Vec::from_slice(alloc, b"PROGRAM T\n")?;
-    source.extend_from_slice(front)?;
-    for _ in front.len()..len {
-        source.push(b' ')?;
+// A front, parts that are repeated, and an end.
+fn joined(
+    alloc: Global,
+    front: &[u8],
+    part: &[u8],
+    count: usize,
+    end: &[u8],
+) -> Result<Vec<u8>, Fail> {
+    let mut source = Vec::from_slice(alloc, front)?;
+    for _ in 0..count {
+        source.extend_from_slice(part)?;
     }
     source.extend_from_slice(end)?;
     Ok(source)
 }
 
+// The number of logical lines, or the refusal, as text.
+fn outline(alloc: Global, source: &[u8]) -> Result<String, Fail>
+    requires { length source.now ≤ 262144 }
+{
+    let mut out = String::new(alloc);
+    match logical_lines(alloc, source) {
+        Ok(lines) => write!(out, "{} lines", lines.as_slice().len())?,
+        Err(refusal) => write_refusal(&mut out, refusal)?,
+    }
+    Ok(out)
+}
+
 #[test]
-fn limits_lines(rt: HostRuntime) -> Result<(), Fail> {
-    let lines = "1: PROGRAM@1:1 T@1:9\n2: N@2:1\n";
-    let none = "1: PROGRAM@1:1 T@1:9\n";
-    let cases: [(usize, &[u8], &[u8], &str); 11] = [
-        (132, b"N", b"\n", lines),
-        (132, b"N", b"\r\n", lines),
-        (132, b"N", b"", lines),
-        (132, b"N", b"\r", "LineLong 2:133"),
-        (133, b"N", b"\r\n", "LineLong 2:133"),
-        (133, b"N", b"", "LineLong 2:133"),
-        (132, b"! c", b"\n", none),
-        (133, b"! c", b"\n", "LineLong 2:133"),
-        (132, b"N", b"#", "LineLong 2:133"),
-        (131, b"N", b"##", "BadByte 2:132"),
-        (131, b"N", b"''", "LineLong 2:133"),
+fn bounds_lines_and_takes_long_sources(rt: HostRuntime) -> Result<(), Fail> {
+    let cases: [(&[u8], &[u8], usize, &[u8], &str); 23] = [
+        (b"M\nN", b" ", 131, b"\n", "2 lines"),
+        (b"M\nN", b" ", 131, b"\r\n", "2 lines"),
+        (b"M\nN", b" ", 131, b"", "2 lines"),
+        (b"M\nN", b" ", 131, b"\r", "LineLong 2:133"),
+        (b"M\nN", b" ", 132, b"\r\n", "LineLong 2:133"),
+        (b"M\nN", b" ", 132, b"", "LineLong 2:133"),
+        (b"M\n!", b"c", 131, b"\n", "1 lines"),
+        (b"M\n!", b"c", 132, b"\n", "LineLong 2:133"),
+        (b"M\nN", b" ", 131, b"#", "LineLong 2:133"),
+        (b"M\nN", b" ", 130, b"##", "BadByte 2:132"),
+        (b"M\nN", b" ", 130, b"''", "LineLong 2:133"),
+        (b"", b"A", 262144, b"", "NameLong 1:1"),
+        (b"", b"9", 262144, b"", "NumberWide 1:1"),
+        (b"", b"0", 262144, b"", "LineLong 1:133"),
+        (b"", b"'", 262144, b"", "LineLong 1:133"),
+        (b"", b".", 262144, b"", "BadByte 1:1"),
+        (b"", b"&", 262144, b"", "BadByte 1:1"),
+        (b"", b" ", 262144, b"", "LineLong 1:133"),
+        (b"", b"&\n", 131072, b"", "0 lines"),
+        (b"", b"!\r\n", 87381, b"", "0 lines"),
+        (b"", b"+\n", 131072, b"", "131072 lines"),
+        (b"", b"N=1;", 65536, b"", "LineLong 1:133"),
+        (b"M", b"\r\n", 131071, b"N", "2 lines"),
     ];
-    for (len, front, end, want) in cases {
-        let source = long_line(rt.alloc(), len, front, end)?;
+    for (front, part, count, end, want) in cases {
+        let source = joined(rt.alloc(), front, part, count, end)?;
         assert!(rt; source.len() <= 262144);
         assert_eq!(rt;
-            answer(rt.alloc(), &source)?.as_str(),
+            outline(rt.alloc(), &source)?.as_str(),
             want,
-            "at {len}, {front:?}"
+            "at {front:?} {part:?} {end:?}"
         );
-    }
-    Ok(())
-}
-
-fn repeated(alloc: Global, part: &[u8], count: usize) -> Result<Vec<u8>, Fail> {
-    let mut source = Vec::new(alloc);
-    for _ in 0..count {
-        source.extend_from_slice(part)?;
-    }
-    Ok(source)
-}
-
-#[test]
-fn takes_long_sources(rt: HostRuntime) -> Result<(), Fail> {
-    let cases: [(&[u8], usize, &str); 12] = [
-        (b"A", 262144, "NameLong 1:1"),
-        (b"9", 262144, "NumberWide 1:1"),
-        (b"0", 262144, "LineLong 1:133"),
-        (b"'", 262144, "LineLong 1:133"),
-        (b".", 262144, "BadByte 1:1"),
-        (b"&", 262144, "BadByte 1:1"),
-        (b" ", 262144, "LineLong 1:133"),
-        (b"&\n", 131072, "0 lines"),
-        (b"!\r\n", 87381, "0 lines"),
-        (b"+\n", 131072, "131072 lines"),
-        (b"N=1;", 65536, "LineLong 1:133"),
-        (
-            b"CALL P(A, 'it''s') ! .and. & so on ..\r\n",
-            6721,
-            "6721 lines",
-        ),
-    ];
-    for (part, count, want) in cases {
-        let source = repeated(rt.alloc(), part, count)?;
-        assert!(rt; source.len() <= 262144);
-        let found = match logical_lines(rt.alloc(), &source) {
-            Ok(lines) => format!(in rt.alloc(); "{} lines", lines.as_slice().len())?,
-            Err(refusal) => {
-                let mut out = String::new(rt.alloc());
-                write_refusal(&mut out, refusal)?;
-                out
-            }
-        };
-        assert_eq!(rt; found.as_str(), want, "at {part:?}");
     }
     Ok(())
 }
