@@ -34,7 +34,7 @@ gather begun [] = closed begun []
 gather begun (None ∷ more) = closed begun (gather [] more)
 gather begun (Some t ∷ more) = gather (begun ++ t ∷ []) more
 
--- the source has pieces and no fault, and these are its logical lines
+-- the source has these pieces in its physical lines, which end at LF or CR LF, and no fault, and these are its logical lines
 pub record AreLogicalLines (source : List ℕ) (logical : List Line) : Type 0 where
   pub pieces : List (List Piece)
   pub cut : AllZip (λ ps z. Leads ps z []) pieces (lines source)

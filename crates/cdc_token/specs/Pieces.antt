@@ -85,6 +85,7 @@ abbrev pub stays_first : Bool → List Piece → Bool
 stays_first was [] = was
 stays_first was (p ∷ ps) = stays_first (still_first p.0 was) ps
 
+-- as far as this piece
 abbrev pub still_open : Kind → Bool → Bool
 still_open Blank was = was
 still_open Comment was = was

@@ -30,7 +30,8 @@ pub record IsStray (first : Bool) (z : List ℕ) : Type 0 where
   pub late : first ≡ false
   pub early : says_nothing rest ≡ false
 
--- what is wrong with a piece, behind i of its bytes
+-- What is wrong with a piece, behind i of its bytes: a name of more than 31 characters, a number over 2^63 - 1, and in a text
+-- a byte that is neither printable ASCII nor tab.
 abbrev pub Wrong : Kind → List ℕ → Fault → ℕ → Type 0
 Wrong Name front d i = (d ≡ NameLong) × (i ≡ 0) × (31 < length front)
 Wrong Number front d i = (d ≡ NumberWide) × (i ≡ 0) × (2 ^ 63 ≤ digits_value 10 front)
@@ -41,6 +42,7 @@ Wrong Symbol front d i = ⊥
 Wrong Mark front d i = ⊥
 Wrong Semicolon front d i = ⊥
 
+-- the piece that begins here has it
 pub record IsWrong (z : List ℕ) (d : Fault) (i : ℕ) : Type 0 where
   pub kind : Kind
   pub front : List ℕ
@@ -63,11 +65,11 @@ pub record Seen (column : ℕ) (first : Bool) (z : List ℕ) (d : Fault) (c : �
   pub place : c ≡ column + size pieces + behind
   pub here : Here (stays_first first pieces) rest d behind
 
--- the fault is in the line, at column c; the flag: the line is continued to
+-- the fault is in the line, at column c: a 133rd byte, or what is seen among its pieces; the flag: the line is continued to
 abbrev pub Holds : Bool → List ℕ → Fault → ℕ → Type 0
 Holds was line d c = ((d ≡ LineLong) × (c ≡ 133) × (132 < length line)) ⊎ Seen 1 was line d c
 
--- the fault is in line l of these, whose numbers begin at n, at column c
+-- The fault is in line l of these, whose numbers begin at n, at column c. Pieces lead through the lines before.
 abbrev pub HoldsIn : ℕ → Bool → List (List ℕ) → Fault → ℕ → ℕ → Type 0
 HoldsIn n was [] d l c = ⊥
 HoldsIn n was (z ∷ zs) d l c =

@@ -19,6 +19,7 @@ spellings =
     ∷ (codes "+", Plus) ∷ (codes "-", Minus) ∷ (codes "*", Star) ∷ (codes "/", Slash)
     ∷ []
 
+-- what the first of these spellings that the bytes are writes
 abbrev pub named : List ℕ → List Spelling → Option symbols.Symbol
 named front [] = None
 named front (s ∷ more) = if str_eq_ignore_ascii_case s.0 front then Some s.1 else named front more

@@ -3,6 +3,7 @@
 ghost use Rattle.std.specs.Prelude.{◌≡◌, ◌≤◌, ◌<◌, ◌+◌, ◌^◌, false, length, slice_index, IfSome};
 ghost use Rattle.cdc_token.specs.Cutting as spec;
 
+/// The first byte, or 0 where there is none.
 fn front_byte(z: &[u8]) -> u8
     ensures { result ≡ slice_index z.now 0 }
 {

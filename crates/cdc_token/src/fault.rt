@@ -33,6 +33,7 @@ impl From<AllocError> for LineRefusal {
     }
 }
 
+/// The refusal of a source by a fault at a place.
 fn refusal(fault: Fault, place: Place) -> LexRefusal
     ensures { result ≡ spec.refusal fault place }
 {

@@ -19,6 +19,7 @@ pub struct Gathered {
 impl Gathered {
     ghost use Rattle.cdc_token.specs.Taking as spec;
 
+    /// Nothing yet.
     pub fn new(alloc: Global) -> Gathered
         ensures done { result.done.items ≡ [] }
         ensures begun { result.begun.items ≡ [] }

@@ -25,6 +25,7 @@ pub enum Meaning {
     Token(Token),
 }
 
+/// A name in upper case, or that it is too long.
 fn name_meaning(alloc: Global, bytes: &[u8], column: u32) -> Result<Meaning, LineRefusal>
     requires { pieces.Is Kind.Name bytes.now }
     ensures ok { IfOk result (λ m. (m ≡ spec.meaning Kind.Name bytes.now) × values.NothingWrong Kind.Name bytes.now) }
@@ -36,6 +37,7 @@ fn name_meaning(alloc: Global, bytes: &[u8], column: u32) -> Result<Meaning, Lin
     Ok(Meaning::Token(Token::Name(List::of(upper_case(alloc, bytes)?))))
 }
 
+/// The value of a number, or that it is over 2^63 - 1.
 fn number_meaning(bytes: &[u8], column: u32) -> Result<Meaning, LineRefusal>
     requires { pieces.Is Kind.Number bytes.now }
     ensures ok { IfOk result (λ m. (m ≡ spec.meaning Kind.Number bytes.now) × values.NothingWrong Kind.Number bytes.now) }
@@ -47,6 +49,7 @@ fn number_meaning(bytes: &[u8], column: u32) -> Result<Meaning, LineRefusal>
     }
 }
 
+/// What a text says: each doubled quote counts as one.
 fn content(alloc: Global, text: &[u8]) -> Result<Vec<u8>, AllocError>
     requires { pieces.Is Kind.Text text.now }
     ensures { IfOk result (λ v. v.items ≡ spec.content text.now) }
@@ -57,6 +60,7 @@ fn content(alloc: Global, text: &[u8]) -> Result<Vec<u8>, AllocError>
     }
 }
 
+/// What a text says, or the first byte in it that is neither printable ASCII nor tab.
 fn text_meaning(alloc: Global, bytes: &[u8], column: u32) -> Result<Meaning, LineRefusal>
     requires text { pieces.Is Kind.Text bytes.now }
     requires fits { column + length bytes.now < 2 ^ 32 }
@@ -69,6 +73,7 @@ fn text_meaning(alloc: Global, bytes: &[u8], column: u32) -> Result<Meaning, Lin
     }
 }
 
+/// The symbol that the bytes write.
 fn symbol_meaning(bytes: &[u8]) -> Meaning
     requires { pieces.Is Kind.Symbol bytes.now }
     ensures { result ≡ spec.meaning Kind.Symbol bytes.now }

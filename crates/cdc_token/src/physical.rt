@@ -5,6 +5,7 @@ ghost use Rattle.std.specs.List.{prefix_len};
 ghost use Rattle.std.specs.Str.Lines.{lines, strip_carriage_return};
 ghost use Rattle.cdc_token.specs.Cutting.{is_inner};
 
+/// How many bytes stand before the first line feed.
 fn line_len(z: &[u8]) -> usize
     ensures value { result ≡ prefix_len is_inner z.now }
     ensures within { result ≤ length z.now }
@@ -16,6 +17,7 @@ fn line_len(z: &[u8]) -> usize
     end
 }
 
+/// A line without the carriage return at its end.
 fn without_return(line: &[u8]) -> &[u8]
     ensures value { result.now ≡ strip_carriage_return line.now }
     ensures within { length result.now ≤ length line.now }

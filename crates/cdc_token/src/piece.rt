@@ -26,6 +26,7 @@ pub enum Kind {
     Semicolon,
 }
 
+/// What a piece can be that begins with this byte. What begins no other piece may begin a symbol.
 fn kind_at(b: u8) -> Kind
     ensures { result ≡ spec.kind_at b }
 {
@@ -49,6 +50,7 @@ fn kind_at(b: u8) -> Kind
     }
 }
 
+/// How many bytes at the front go on a name.
 fn words(z: &[u8]) -> usize
     ensures value { result ≡ prefix_len bytes.is_word z.now }
     ensures within { result ≤ length z.now }
@@ -60,6 +62,7 @@ fn words(z: &[u8]) -> usize
     end
 }
 
+/// How many bytes at the front are digits.
 fn digits(z: &[u8]) -> usize
     ensures value { result ≡ prefix_len is_ascii_digit z.now }
     ensures within { result ≤ length z.now }
@@ -71,6 +74,7 @@ fn digits(z: &[u8]) -> usize
     end
 }
 
+/// How many bytes the longest symbol at the front has.
 fn symbol_len(z: &[u8]) -> Option<usize>
     ensures { result ≡ spec.second (spec.first_fit symbols.spellings z.now) }
 {
@@ -78,6 +82,7 @@ fn symbol_len(z: &[u8]) -> Option<usize>
     Some(n)
 }
 
+/// How many bytes a piece of this kind has, where `z` is its first byte and what follows that.
 fn len(kind: Kind, b: u8, rest: &[u8], z: &[u8]) -> Option<usize>
     requires small { length z.now < 2 ^ 62 }
     requires parts { z.now ≡ b ∷ rest.now }
@@ -93,6 +98,7 @@ fn len(kind: Kind, b: u8, rest: &[u8], z: &[u8]) -> Option<usize>
     }
 }
 
+/// The kind of the piece at the front, by its first byte, and how many bytes it has.
 fn cut(z: &[u8]) -> Option<(Kind, usize)>
     requires { length z.now < 2 ^ 62 }
     ensures { result ≡ spec.cut z.now }

@@ -36,24 +36,28 @@ pub const SPELLINGS: [(&[u8], Symbol); 25] = [
     (b"/", Symbol::Slash),
 ];
 
+/// The same bytes, but for the case of letters.
 fn same_letters(a: &[u8], b: &[u8]) -> bool
     ensures { result ≡ str_eq_ignore_ascii_case a.now b.now }
 {
     a.eq_ignore_ascii_case(b)
 }
 
+/// The first n bytes, or all where there are fewer.
 fn front(z: &[u8], n: usize) -> &[u8]
     ensures { result.now ≡ take n z.now }
 {
     if n < z.len() { &z[..n] } else { z }
 }
 
+/// The spelling stands at the front, in any letter case.
 fn begins_with(z: &[u8], spelling: &[u8]) -> bool
     ensures { result ≡ str_eq_ignore_ascii_case spelling.now (take (length spelling.now) z.now) }
 {
     same_letters(spelling, front(z, spelling.len()))
 }
 
+/// The first symbol of the table that stands at the front, and the number of its bytes.
 fn first_fit(mut table: &[(&[u8], Symbol)], z: &[u8]) -> Option<(Symbol, usize)>
     ensures { result ≡ spec.first_fit (map (λ s. (s.0.now, s.1)) table.entry.now) z.now }
 {

@@ -30,7 +30,7 @@ pub fn number(digits: &[u8]) -> Option<i64>
     Some(value as i64)
 }
 
-// Each byte is kept that is not the second of two quotes.
+/// Each byte is kept that is not the second of two quotes.
 fn keep(out: &mut Vec<u8>, is_second: bool, b: u8) -> Result<(), AllocError>
     ensures { OnOk result (out.new.items ≡ out.old.items ++ spec.kept is_second b) }
 {
