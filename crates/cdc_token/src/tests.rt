@@ -1,0 +1,258 @@
+ghost use Rattle.std.specs.Prelude.{◌≤◌, length};
+
+use crate::{LexRefusal, Lexed, Line, Token, logical_lines};
+use cdc_base::Place;
+use std::alloc::Global;
+use std::fmt::Write;
+use std::str::from_utf8;
+use std::test::Fail;
+
+fn write_token(out: &mut String, lexed: &Lexed) -> Result<(), Fail> {
+    match &lexed.token {
+        Token::Name(name) => write!(out, " {}", from_utf8(name.as_slice())?)?,
+        Token::Number(number) => write!(out, " {number}")?,
+        Token::Text(text) => write!(out, " '{}'", from_utf8(text.as_slice())?)?,
+        Token::Symbol(symbol) => write!(out, " {symbol:?}")?,
+    }
+    let Place { line, column } = lexed.place;
+    write!(out, "@{line}:{column}")?;
+    Ok(())
+}
+
+fn write_line(out: &mut String, line: &Line) -> Result<(), Fail> {
+    write!(out, "{}:", line.line)?;
+    for lexed in line.tokens.as_slice() {
+        write_token(out, lexed)?;
+    }
+    out.push('\n')?;
+    Ok(())
+}
+
+fn write_refusal(out: &mut String, refusal: LexRefusal) -> Result<(), Fail> {
+    let (name, place) = match refusal {
+        LexRefusal::BadByte(place) => ("BadByte", place),
+        LexRefusal::OpenText(place) => ("OpenText", place),
+        LexRefusal::NameLong(place) => ("NameLong", place),
+        LexRefusal::NumberWide(place) => ("NumberWide", place),
+        LexRefusal::LineLong(place) => ("LineLong", place),
+        LexRefusal::Memory => ("Memory", Place { line: 0, column: 0 }),
+    };
+    write!(out, "{name} {}:{}", place.line, place.column)?;
+    Ok(())
+}
+
+// The logical lines, or the refusal, as text.
+fn answer(alloc: Global, source: &[u8]) -> Result<String, Fail>
+    requires { length source.now ≤ 262144 }
+{
+    let mut out = String::new(alloc);
+    match logical_lines(alloc, source) {
+        Ok(lines) => {
+            for line in lines.as_slice() {
+                write_line(&mut out, line)?;
+            }
+        }
+        Err(refusal) => write_refusal(&mut out, refusal)?,
+    }
+    Ok(out)
+}
+
+#[test]
+fn reads_tokens_and_lines(rt: HostRuntime) -> Result<(), Fail> {
+    let cases: [(&[u8], &str); 34] = [
+        (b"", ""),
+        (b"\n \t! only a comment \x00\xFF\r\x7F\n", ""),
+        (b"Program t\nEnd", "1: PROGRAM@1:1 T@1:9\n2: END@2:1\n"),
+        (
+            b"N = 1\r\nM = 2\r\n",
+            "1: N@1:1 Assign@1:3 1@1:5\n2: M@2:1 Assign@2:3 2@2:5\n",
+        ),
+        (b"\tN\t=1", "1: N@1:2 Assign@1:4 1@1:5\n"),
+        (b"a_1B2c aZ_9", "1: A_1B2C@1:1 AZ_9@1:8\n"),
+        (
+            b"abcdefghijklmnopqrstuvwxyz_0123",
+            "1: ABCDEFGHIJKLMNOPQRSTUVWXYZ_0123@1:1\n",
+        ),
+        (b"1A 2_", "BadByte 1:5"),
+        (
+            b"007 0 9223372036854775807",
+            "1: 7@1:1 0@1:5 9223372036854775807@1:7\n",
+        ),
+        (
+            b"00000000000000000000009223372036854775807",
+            "1: 9223372036854775807@1:1\n",
+        ),
+        (
+            b"( ) , : :: = + - * /",
+            "1: LeftParen@1:1 RightParen@1:3 Comma@1:5 Colon@1:7 DoubleColon@1:9 Assign@1:12 Plus@1:14 Minus@1:16 Star@1:18 Slash@1:20\n",
+        ),
+        (
+            b"== /= < <= > >=",
+            "1: Eq@1:1 Ne@1:4 Lt@1:7 Le@1:9 Gt@1:12 Ge@1:14\n",
+        ),
+        (
+            b".EQ. .ne. .Lt. .lE. .GT. .ge.",
+            "1: Eq@1:1 Ne@1:6 Lt@1:11 Le@1:16 Gt@1:21 Ge@1:26\n",
+        ),
+        (
+            b".NOT. .and. .Or. .nOt.",
+            "1: Not@1:1 And@1:7 Or@1:13 Not@1:18\n",
+        ),
+        (b"===", "1: Eq@1:1 Assign@1:3\n"),
+        (b":::", "1: DoubleColon@1:1 Colon@1:3\n"),
+        (b"<==>=/=", "1: Le@1:1 Assign@1:3 Ge@1:4 Ne@1:6\n"),
+        (b"//=< =", "1: Slash@1:1 Ne@1:2 Lt@1:4 Assign@1:6\n"),
+        (b"1.eq.2.NOT.3", "1: 1@1:1 Eq@1:2 2@1:6 Not@1:7 3@1:12\n"),
+        (b"'it''s' \"\"", "1: 'it's'@1:1 ''@1:9\n"),
+        (b"'' '''' ''''''", "1: ''@1:1 '''@1:4 ''''@1:9\n"),
+        (b"\"a\"\"b'\" 'c\"'", "1: 'a\"b''@1:1 'c\"'@1:9\n"),
+        (
+            b"'a!b' 'c;d' '&\t~'",
+            "1: 'a!b'@1:1 'c;d'@1:7 '&\t~'@1:13\n",
+        ),
+        (b"'a'\"b\"", "1: 'a'@1:1 'b'@1:4\n"),
+        (
+            b"N=1;;M=2 ! x;y",
+            "1: N@1:1 Assign@1:2 1@1:3\n1: M@1:6 Assign@1:7 2@1:8\n",
+        ),
+        (b" ; ;\n;", ""),
+        (b"N = &\n  1\nM", "1: N@1:1 Assign@1:3 1@2:3\n3: M@3:1\n"),
+        (
+            b"N = & ! c\n\n ! c\n \t& 1 & \r\n+ 2",
+            "1: N@1:1 Assign@1:3 1@4:5 Plus@5:1 2@5:3\n",
+        ),
+        (b"N &\n&&\n& ! c\n= 1", "1: N@1:1 Assign@4:1 1@4:3\n"),
+        (b"&\n\n N", "3: N@3:2\n"),
+        (
+            b"N = &\n; M = 1",
+            "1: N@1:1 Assign@1:3\n2: M@2:3 Assign@2:5 1@2:7\n",
+        ),
+        (b"N = 1 &", "1: N@1:1 Assign@1:3 1@1:5\n"),
+        (b"N = 1 &\n! c\n \n", "1: N@1:1 Assign@1:3 1@1:5\n"),
+        (b"A;B&\n;C", "1: A@1:1\n1: B@1:3\n2: C@2:2\n"),
+    ];
+    for (source, want) in cases {
+        assert!(rt; source.len() <= 262144);
+        assert_eq!(rt; answer(rt.alloc(), source)?.as_str(), want, "at {source:?}");
+    }
+    Ok(())
+}
+
+#[test]
+fn refuses_the_first_fault(rt: HostRuntime) -> Result<(), Fail> {
+    let cases: [(&[u8], &str); 32] = [
+        (b"PROGRAM T\nN = 1 # 2\nEND\n", "BadByte 2:7"),
+        (b"PROGRAM T\nPRINT *, 'ab\nEND\n", "OpenText 2:10"),
+        (
+            b"PROGRAM T\nNNNNNNNNNNNNNNNNNNNNNNNNNNNNNNNN = 1\n",
+            "NameLong 2:1",
+        ),
+        (b"PROGRAM T\nN = 9223372036854775808\n", "NumberWide 2:5"),
+        (
+            b"PROGRAM T\nN = (((((((((((((((((((((((((((((((((((((((((((((((((((((((((((((((((1)))))))))))))))))))))))))))))))))))))))))))))))))))))))))))))))))\n",
+            "LineLong 2:133",
+        ),
+        (
+            b"N = 99999999999999999999999999999999999999999999",
+            "NumberWide 1:5",
+        ),
+        (b"N = 1 # 2 # 3", "BadByte 1:7"),
+        (b"N # 'ab", "BadByte 1:3"),
+        (b"N 'ab #", "OpenText 1:3"),
+        (b"N = 1 ! # 'ab\n#", "BadByte 2:1"),
+        (b"N = 1.5", "BadByte 1:6"),
+        (b".EQ", "BadByte 1:1"),
+        (b"N .NOT 1", "BadByte 1:3"),
+        (b".TRUE.", "BadByte 1:1"),
+        (b"_A", "BadByte 1:1"),
+        (b"N\r= 1", "BadByte 1:2"),
+        (b"N = 1\r", "BadByte 1:6"),
+        (b"N = 1\r\r\n", "BadByte 1:6"),
+        (b"N\x00", "BadByte 1:2"),
+        (b"N\x7F", "BadByte 1:2"),
+        (b"N\xC3", "BadByte 1:2"),
+        (b"'a\x01b'", "BadByte 1:3"),
+        (b"'a\xFF' #", "BadByte 1:3"),
+        (b"'a\x7F\r'", "BadByte 1:3"),
+        (b"'a\x01b", "OpenText 1:1"),
+        (b"\"a'", "OpenText 1:1"),
+        (b"'a''", "OpenText 1:1"),
+        (b"'a\n'", "OpenText 1:1"),
+        (b"& N", "BadByte 1:1"),
+        (b"N & M", "BadByte 1:3"),
+        (b"N &\n& & M", "BadByte 2:3"),
+        (b"N &\nM\n& = 1", "BadByte 3:1"),
+    ];
+    for (source, want) in cases {
+        assert!(rt; source.len() <= 262144);
+        assert_eq!(rt; answer(rt.alloc(), source)?.as_str(), want, "at {source:?}");
+    }
+    Ok(())
+}
+
+// A front, parts that are repeated, and an end.
+fn joined(
+    alloc: Global,
+    front: &[u8],
+    part: &[u8],
+    count: usize,
+    end: &[u8],
+) -> Result<Vec<u8>, Fail> {
+    let mut source = Vec::from_slice(alloc, front)?;
+    for _ in 0..count {
+        source.extend_from_slice(part)?;
+    }
+    source.extend_from_slice(end)?;
+    Ok(source)
+}
+
+// The number of logical lines, or the refusal, as text.
+fn outline(alloc: Global, source: &[u8]) -> Result<String, Fail>
+    requires { length source.now ≤ 262144 }
+{
+    let mut out = String::new(alloc);
+    match logical_lines(alloc, source) {
+        Ok(lines) => write!(out, "{} lines", lines.as_slice().len())?,
+        Err(refusal) => write_refusal(&mut out, refusal)?,
+    }
+    Ok(out)
+}
+
+#[test]
+fn bounds_lines_and_takes_long_sources(rt: HostRuntime) -> Result<(), Fail> {
+    let cases: [(&[u8], &[u8], usize, &[u8], &str); 23] = [
+        (b"M\nN", b" ", 131, b"\n", "2 lines"),
+        (b"M\nN", b" ", 131, b"\r\n", "2 lines"),
+        (b"M\nN", b" ", 131, b"", "2 lines"),
+        (b"M\nN", b" ", 131, b"\r", "LineLong 2:133"),
+        (b"M\nN", b" ", 132, b"\r\n", "LineLong 2:133"),
+        (b"M\nN", b" ", 132, b"", "LineLong 2:133"),
+        (b"M\n!", b"c", 131, b"\n", "1 lines"),
+        (b"M\n!", b"c", 132, b"\n", "LineLong 2:133"),
+        (b"M\nN", b" ", 131, b"#", "LineLong 2:133"),
+        (b"M\nN", b" ", 130, b"##", "BadByte 2:132"),
+        (b"M\nN", b" ", 130, b"''", "LineLong 2:133"),
+        (b"", b"A", 262144, b"", "NameLong 1:1"),
+        (b"", b"9", 262144, b"", "NumberWide 1:1"),
+        (b"", b"0", 262144, b"", "LineLong 1:133"),
+        (b"", b"'", 262144, b"", "LineLong 1:133"),
+        (b"", b".", 262144, b"", "BadByte 1:1"),
+        (b"", b"&", 262144, b"", "BadByte 1:1"),
+        (b"", b" ", 262144, b"", "LineLong 1:133"),
+        (b"", b"&\n", 131072, b"", "0 lines"),
+        (b"", b"!\r\n", 87381, b"", "0 lines"),
+        (b"", b"+\n", 131072, b"", "131072 lines"),
+        (b"", b"N=1;", 65536, b"", "LineLong 1:133"),
+        (b"M", b"\r\n", 131071, b"N", "2 lines"),
+    ];
+    for (front, part, count, end, want) in cases {
+        let source = joined(rt.alloc(), front, part, count, end)?;
+        assert!(rt; source.len() <= 262144);
+        assert_eq!(rt;
+            outline(rt.alloc(), &source)?.as_str(),
+            want,
+            "at {front:?} {part:?} {end:?}"
+        );
+    }
+    Ok(())
+}
