@@ -1,6 +1,7 @@
 //! Files of the system as a store. Trusted: no contract says what a file holds.
-ghost use Rattle.std.specs.Prelude.{◌≡◌, None};
+ghost use Rattle.std.specs.Prelude.{◌≡◌, ◌≢◌, ◌+◌, ◌-◌, ◌^◌, min, None, IfOk, OnOk, OnErr, IsSomeAnd, string_bytes};
 ghost use Rattle.std.specs.Io.{ReadsAtMost};
+ghost use Rattle.std.specs.Io.KnownBytes.{ReadConsumes};
 
 use cdc_base::{Store, StoreFault};
 use std::alloc::Global;
@@ -29,12 +30,17 @@ struct Opened<F> {
 }
 
 impl<F: Read + Seek> Opened<F> {
+    // Where the file tells the bytes that it has left, a call at the place of the next byte gives these.
     fn read_at(&mut self, at: u64, buf: &mut [u8]) -> io::Result<usize>
-        ensures { ReadsAtMost result buf.new }
+        ensures bound { ReadsAtMost result buf.new }
+        ensures next { at ≡ self.old.place →
+            ReadConsumes (F.remaining self.old.file) (F.remaining self.new.file) result buf.new }
+        ensures place { IfOk result (λ n. n ≢ 0 → self.new.place ≡ min (at + n) (2 ^ 64 - 1)) }
+        ensures name { self.new.name ≡ self.old.name }
     {
         if at != self.place {
             match self.file.seek(SeekFrom::Start(at)) {
-                Ok(place) => self.place = place,
+                Ok(_) => self.place = at,
                 // No file of the device reaches that far, so the place is past the end.
                 Err(e) if e.kind() == ErrorKind::InvalidInput => return Ok(0),
                 Err(e) => return Err(e),
@@ -61,7 +67,10 @@ impl<'a, R: Files> FileStore<'a, R> {
         }
     }
 
-    fn open(&self, name: &str) -> io::Result<Opened<R::File>> {
+    fn open(&self, name: &str) -> io::Result<Opened<R::File>>
+        ensures name { IfOk result (λ opened. string_bytes opened.name ≡ name.now) }
+        ensures place { IfOk result (λ opened. opened.place ≡ 0) }
+    {
         Ok(Opened {
             name: String::from_str(self.alloc, name)?,
             file: fs::open(self.files, name)?,
@@ -69,9 +78,13 @@ impl<'a, R: Files> FileStore<'a, R> {
         })
     }
 
-    // After a failure no file is open.
+    // The file of that name is open then, and none after a failure.
     fn read_file(&mut self, name: &str, at: u64, buf: &mut [u8]) -> io::Result<usize>
         ensures bound { ReadsAtMost result buf.new }
+        ensures name { OnOk result (IsSomeAnd self.new.opened (λ opened. string_bytes opened.name ≡ name.now)) }
+        ensures place { IfOk result (λ n. n ≢ 0 →
+            IsSomeAnd self.new.opened (λ opened. opened.place ≡ min (at + n) (2 ^ 64 - 1))) }
+        ensures closed { OnErr result (self.new.opened ≡ None) }
         ensures faults { self.new.faults ≡ self.old.faults }
         ensures given { self.new.given ≡ self.old.given }
     {
