@@ -7,6 +7,8 @@ mod report;
 mod run;
 mod schedule;
 mod source;
+#[cfg(test)]
+mod tests;
 mod text;
 mod tool;
 mod translate;
