@@ -2,14 +2,11 @@
 use Rattle.std.proofs.Common.{◌≡◌, ℕ, List, [], ◌++◌, length, take, drop, refl, sym, ◌∙◌, ap, append_assoc, append-nil, take-append-drop, ◌<◌, suc, get_or, subst, drop-cons}
 use Rattle.std.specs.Prelude.{Option, Some, None, Result, Ok, Err, OnOk, OnErr, IsErr}
 use Rattle.std.proofs.lemmas.Grind.{flat_map-append}
+use Rattle.cdc_base.proofs.Grown.{grown-grown}
 use Rattle.cdc_base.specs.Causes.{Rose, HasCause}
 use Rattle.cdc_base.specs.Outside.{grown, GrewInPart}
 use Rattle.cdc_top.specs.Pieces.{GrewByFront, Wrote, text_bytes, texts_bytes}
 use Rattle.cdc_top.specs.declared.text.Text.{Text}
-
-pub grown-grown : (o : Option (List ℕ)) (xs ys : List ℕ) → grown (grown o xs) ys ≡ grown o (xs ++ ys)
-grown-grown None xs ys = refl
-grown-grown (Some bytes) xs ys = ap Some (append_assoc bytes xs ys)
 
 pub front_of_part : {old new : Option (List ℕ)} {bytes : List ℕ} → GrewInPart old new bytes → GrewByFront old new bytes
 front_of_part {bytes = bytes} part = record {

@@ -46,12 +46,13 @@ const INPUT_REFUSED: &str = "refused input at 1:1\n";
 
 const SCHEDULE_REFUSED: &str = "refused header line 1\n";
 
-const RUN: [&str; 4] = ["run", "one.f", "one.in", "one.s"];
+const RUN: &str = "run,one.f,one.in,one.s";
 
-fn words_of(alloc: Global, words: &[&str]) -> Result<Vec<String>, Fail> {
+// The words of a line, with a comma between two.
+fn split_words(alloc: Global, line: &str) -> Result<Vec<String>, Fail> {
     let mut list = Vec::new(alloc);
-    for word in words {
-        list.push(String::from_str(alloc, *word)?)?;
+    for word in line.split(',') {
+        list.push(String::from_str(alloc, word)?)?;
     }
     Ok(list)
 }
@@ -68,7 +69,7 @@ fn files_of(alloc: Global, files: [&str; 3]) -> Result<Vec<(String, Vec<u8>)>, F
 
 #[test]
 fn files_are_answered(rt: HostRuntime) -> Result<(), Fail> {
-    let words = words_of(rt.alloc(), &RUN)?;
+    let words = split_words(rt.alloc(), RUN)?;
     for (files, status, text) in [
         ([ONE, "", HEADER], 0, DONE),
         ([ONE, "", AT_ONCE], 8, NOT_BEGUN),
@@ -107,18 +108,21 @@ fn files_are_answered(rt: HostRuntime) -> Result<(), Fail> {
 
 #[test]
 fn other_words_are_told_the_usage(rt: HostRuntime) -> Result<(), Fail> {
-    for words in [
-        ["run", "a", "b"].as_slice(),
-        ["run", "-x", "b", "c"].as_slice(),
-        ["run", "a", "", "c"].as_slice(),
-        ["bench", "0"].as_slice(),
-        ["bench", "1001"].as_slice(),
-        [].as_slice(),
+    let mut lists = vec![in rt.alloc(); Vec::new(rt.alloc())]?;
+    for line in [
+        "run,a,b",
+        "run,-x,b,c",
+        "run,a,,c",
+        "runs,a,b,c",
+        "bench,0",
+        "bench,1001",
     ] {
-        let words = words_of(rt.alloc(), words)?;
+        lists.push(split_words(rt.alloc(), line)?)?;
+    }
+    for words in &lists {
         let mut store = PlainStore::new(Vec::new(rt.alloc()));
         let mut sink = MemSink::new(rt.alloc(), 1000, Vec::new(rt.alloc()))?;
-        assert_eq!(rt; run_tool(rt.alloc(), &words, &mut store, &mut sink), 2);
+        assert_eq!(rt; run_tool(rt.alloc(), words, &mut store, &mut sink), 2);
         assert_eq!(rt; sink.bytes(), USAGE.as_bytes());
     }
     Ok(())
@@ -126,7 +130,7 @@ fn other_words_are_told_the_usage(rt: HostRuntime) -> Result<(), Fail> {
 
 #[test]
 fn faults_end_the_call(rt: HostRuntime) -> Result<(), Fail> {
-    let words = words_of(rt.alloc(), &RUN)?;
+    let words = split_words(rt.alloc(), RUN)?;
     // The calls of the store and of the sink that fail, the room of the sink, and the status.
     for (store_fails, sink_fails, room, status) in [
         (2, 0, 1000, 5),
@@ -151,7 +155,7 @@ fn faults_end_the_call(rt: HostRuntime) -> Result<(), Fail> {
 
 #[test]
 fn a_counting_sink_counts_the_printed_bytes(rt: HostRuntime) -> Result<(), Fail> {
-    let words = words_of(rt.alloc(), &RUN)?;
+    let words = split_words(rt.alloc(), RUN)?;
     let mut store = PlainStore::new(files_of(rt.alloc(), [ONE, "", HEADER])?);
     let mut sink = CountSink::new();
     assert_eq!(rt; run_tool(rt.alloc(), &words, &mut store, &mut sink), 0);
