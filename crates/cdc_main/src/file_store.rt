@@ -1,21 +1,23 @@
 //! Files of the system as a store. Trusted: no contract says what a file holds.
-ghost use Rattle.std.specs.Prelude.{◌≡◌, ◌≢◌, ◌+◌, ◌-◌, ◌^◌, min, None, IfOk, OnOk, OnErr, IsSomeAnd, string_bytes};
+ghost use Rattle.std.specs.Prelude.{◌≡◌, ◌≢◌, ◌+◌, ◌-◌, ◌^◌, min, None, IfOk, OnOk, OnErr, IsSomeAnd};
 ghost use Rattle.std.specs.Io.{ReadsAtMost};
 ghost use Rattle.std.specs.Io.KnownBytes.{ReadConsumes};
 
+use arrayvec::ArrayString;
 use cdc_base::{Store, StoreFault};
-use std::alloc::Global;
 use std::io::{ErrorKind, Read, Seek, SeekFrom};
 use std::rt::Files;
 use std::{fs, io};
 
+/// The bytes that the name of a file may have; the system opens no longer ones.
+const LONGEST_NAME: usize = 4096;
+
 /// Reads files by their names. The file that was read last stays open, so that a reading from its
-/// start to its end opens it once. It tells no bytes; each failure, a missing file or want of memory
-/// included, raises one count that stands for every name.
+/// start to its end opens it once. It tells no bytes and takes no memory; each failure, a missing
+/// file included, raises one count that stands for every name.
 #[derive(Drop)]
 pub struct FileStore<'a, R: Files> {
     files: &'a R,
-    alloc: Global,
     opened: Option<Opened<R::File>>,
     faults: u64,
     given: u64,
@@ -24,7 +26,7 @@ pub struct FileStore<'a, R: Files> {
 // An open file, with the place of its next byte.
 #[derive(Drop)]
 struct Opened<F> {
-    name: String,
+    name: ArrayString<LONGEST_NAME>,
     file: F,
     place: u64,
 }
@@ -54,13 +56,12 @@ impl<F: Read + Seek> Opened<F> {
 
 impl<'a, R: Files> FileStore<'a, R> {
     /// No file is open.
-    pub fn new(files: &'a R, alloc: Global) -> FileStore<'a, R>
+    pub fn new(files: &'a R) -> FileStore<'a, R>
         ensures faults { result.faults ≡ 0 }
         ensures given { result.given ≡ 0 }
     {
         FileStore {
             files,
-            alloc,
             opened: None,
             faults: 0,
             given: 0,
@@ -68,11 +69,14 @@ impl<'a, R: Files> FileStore<'a, R> {
     }
 
     fn open(&self, name: &str) -> io::Result<Opened<R::File>>
-        ensures name { IfOk result (λ opened. string_bytes opened.name ≡ name.now) }
+        ensures name { IfOk result (λ opened. opened.name.bytes ≡ name.now) }
         ensures place { IfOk result (λ opened. opened.place ≡ 0) }
     {
+        let Ok(kept) = ArrayString::from(name) else {
+            return Err(io::Error::from(ErrorKind::InvalidInput));
+        };
         Ok(Opened {
-            name: String::from_str(self.alloc, name)?,
+            name: kept,
             file: fs::open(self.files, name)?,
             place: 0,
         })
@@ -81,7 +85,7 @@ impl<'a, R: Files> FileStore<'a, R> {
     // The file of that name is open then, and none after a failure.
     fn read_file(&mut self, name: &str, at: u64, buf: &mut [u8]) -> io::Result<usize>
         ensures bound { ReadsAtMost result buf.new }
-        ensures name { OnOk result (IsSomeAnd self.new.opened (λ opened. string_bytes opened.name ≡ name.now)) }
+        ensures name { OnOk result (IsSomeAnd self.new.opened (λ opened. opened.name.bytes ≡ name.now)) }
         ensures place { IfOk result (λ n. n ≢ 0 →
             IsSomeAnd self.new.opened (λ opened. opened.place ≡ min (at + n) (2 ^ 64 - 1))) }
         ensures closed { OnErr result (self.new.opened ≡ None) }
@@ -138,7 +142,7 @@ mod tests {
         let file = file.as_str();
         fs::write(&rt, file, "abcdef")?;
 
-        let mut store = FileStore::new(&rt, rt.alloc());
+        let mut store = FileStore::new(&rt);
         let mut buf = [0; 4];
         for (at, want) in [
             (0, "abcd"),

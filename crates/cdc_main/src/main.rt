@@ -23,7 +23,7 @@ const NO_MEMORY: u8 = 7;
 
 fn status_of<R: Env + Files + Print + AllocGlobal>(rt: &R) -> Result<u8, NoMemory> {
     let words = words_of(rt)?;
-    let mut store = FileStore::new(rt, rt.alloc());
+    let mut store = FileStore::new(rt);
     let mut out = OutSink::new(rt);
     Ok(run_tool(rt.alloc(), &words, &mut store, &mut out))
 }
