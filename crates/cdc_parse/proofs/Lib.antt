@@ -1,0 +1,15 @@
+pub mod Loops
+pub mod Counts
+pub mod Begins
+pub mod Lists
+pub mod Sound
+pub mod Deep
+pub mod Again
+pub mod FormSound
+pub mod FormAgain
+pub mod LineLaws
+pub mod Puts
+pub mod Grown
+pub mod Taken
+pub mod UnitLaws
+pub mod Derived

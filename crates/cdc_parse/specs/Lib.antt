@@ -1,0 +1,15 @@
+pub mod Forms
+pub mod Kinds
+pub mod Operators
+pub mod Plain
+pub mod Reading
+pub mod Tokens
+pub mod Words
+pub mod Written
+pub mod Stands
+pub mod Depth
+pub mod Lines
+pub mod Roles
+pub mod Units
+pub mod Nesting
+pub mod Grammar

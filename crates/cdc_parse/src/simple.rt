@@ -1,0 +1,120 @@
+//! Statements that may follow the condition of a logical IF: an assignment, CALL, PRINT and READ.
+
+ghost use Rattle.std.specs.Prelude.{◌≡◌, map, [], length, Some};
+ghost use Rattle.cdc_parse.specs.Tokens.{Gives};
+ghost use Rattle.cdc_parse.specs.Reading as r;
+ghost use Rattle.cdc_parse.specs.Forms as f;
+
+use crate::form::{Form, Shown, Spot};
+use crate::parts::{actuals, number, spot};
+use crate::refusal::Unread;
+use crate::token::{after, copied, expect, finished, name_at, word_at};
+use crate::word::Word;
+use cdc_base::List;
+use cdc_token::{Lexed, Symbol, Token};
+use std::alloc::Global;
+
+fn assign(alloc: Global, tokens: &[Lexed]) -> Result<Form, Unread>
+    ensures { Gives f.form result (f.assign_at tokens.now) }
+{
+    let (target, rest) = spot(alloc, tokens)?;
+    let rest = expect(Symbol::Assign, rest)?;
+    let (value, rest) = number(alloc, rest)?;
+    finished(rest)?;
+    Ok(Form::Assign(target, value))
+}
+
+fn call(alloc: Global, tokens: &[Lexed]) -> Result<Form, Unread>
+    ensures { Gives f.form result (f.call_at tokens.now) }
+{
+    let (name, rest) = name_at(alloc, tokens)?;
+    let (actuals, rest) = actuals(alloc, rest)?;
+    finished(rest)?;
+    Ok(Form::Call(name, actuals))
+}
+
+/// A text or an expression.
+fn shown(alloc: Global, tokens: &[Lexed]) -> Result<(Shown, &[Lexed]), Unread>
+    ensures { Gives (λ x. (f.shown x.0, x.1.now)) result (f.shown_at tokens.now) }
+{
+    match tokens {
+        [] => Err(Unread::NotAStatement),
+        [first, rest @ ..] => match &first.token {
+            Token::Text(text) => Ok((Shown::Text(copied(alloc, text.as_slice())?), rest)),
+            _ => {
+                let (value, rest) = number(alloc, tokens)?;
+                Ok((Shown::Value(value), rest))
+            }
+        },
+    }
+}
+
+/// Each item after a comma.
+fn all_shown(alloc: Global, tokens: &[Lexed]) -> Result<(Vec<Shown>, &[Lexed]), Unread>
+    ensures { Gives (λ x. (map f.shown x.0.items, x.1.now)) result (r.more f.shown_at (length tokens.now) [] tokens.now) }
+{
+    let mut items = Vec::new(alloc);
+    let mut rest = tokens;
+    'items: for _ in 0..tokens.len() {
+        match after(Symbol::Comma, rest) {
+            Some(next) => {
+                let (item, next) = shown(alloc, next)?;
+                items.push(item)?;
+                rest = next;
+            }
+            None => return Ok((items, rest)),
+        }
+    }
+    Ok((items, rest))
+}
+
+/// Each target after a comma.
+fn spots(alloc: Global, tokens: &[Lexed]) -> Result<(Vec<Spot>, &[Lexed]), Unread>
+    ensures { Gives (λ x. (map f.spot x.0.items, x.1.now)) result (r.more f.spot_at (length tokens.now) [] tokens.now) }
+{
+    let mut items = Vec::new(alloc);
+    let mut rest = tokens;
+    'items: for _ in 0..tokens.len() {
+        match after(Symbol::Comma, rest) {
+            Some(next) => {
+                let (item, next) = spot(alloc, next)?;
+                items.push(item)?;
+                rest = next;
+            }
+            None => return Ok((items, rest)),
+        }
+    }
+    Ok((items, rest))
+}
+
+fn print(alloc: Global, tokens: &[Lexed]) -> Result<Form, Unread>
+    ensures { Gives f.form result (f.print_at tokens.now) }
+{
+    let rest = expect(Symbol::Star, tokens)?;
+    let (items, rest) = all_shown(alloc, rest)?;
+    finished(rest)?;
+    Ok(Form::Print(List::of(items)))
+}
+
+fn read(alloc: Global, tokens: &[Lexed]) -> Result<Form, Unread>
+    ensures { Gives f.form result (f.read_at tokens.now) }
+{
+    let rest = expect(Symbol::Star, tokens)?;
+    let (targets, rest) = spots(alloc, rest)?;
+    finished(rest)?;
+    Ok(Form::Read(List::of(targets)))
+}
+
+/// The assignment, CALL, PRINT or READ that the tokens are.
+#[tactic(auto, unfolding(crate::specs::Forms::simple_at))]
+pub(crate) fn simple(alloc: Global, tokens: &[Lexed]) -> Result<Form, Unread>
+    ensures { Gives f.form result (f.simple_at tokens.now) }
+{
+    match word_at(tokens) {
+        Some((Word::Call, rest)) => call(alloc, rest),
+        Some((Word::Print, rest)) => print(alloc, rest),
+        Some((Word::Read, rest)) => read(alloc, rest),
+        Some(_) => Err(Unread::NotAStatement),
+        None => assign(alloc, tokens),
+    }
+}
