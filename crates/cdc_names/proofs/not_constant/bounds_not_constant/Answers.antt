@@ -1,0 +1,7 @@
+use Rattle.cdc_names.specs.NotConstant.{bound_not_constant}
+use Rattle.cdc_names.proofs.Firsts.{first_step}
+use Rattle.cdc_names.proofs.not_constant.bounds_not_constant.Goals as goal
+
+pub loop-b-preserved : goal.loop-b-preserved
+loop-b-preserved c =
+    first_step (bound_not_constant c.args.values.now) _ _ c.b-item.result _ _ _ _ c.bound_not_constant.ensures c.sooner-best.ensures c.b-item.is c.loop-b-test.true c.loop-b.invariant

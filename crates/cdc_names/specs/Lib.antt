@@ -1,0 +1,13 @@
+pub mod Entries
+pub mod Places
+pub mod Table
+pub mod Declarations
+pub mod Used
+pub mod Uses
+pub mod Constants
+pub mod Scopes
+pub mod Undeclared
+pub mod Duplicates
+pub mod NotConstant
+pub mod Shapes
+pub mod DoVariables

@@ -1,0 +1,48 @@
+-- What the names of a unit are declared as, and the values of its PARAMETERs.
+use Rattle.std.specs.Prelude.{ℕ, zero, suc, ℤ, List, [], ◌∷◌, Option, Some, None, length, is_some, is_none, if◌then◌else◌}
+use Rattle.std.specs.Prelude.{option_and_then}
+use Rattle.cdc_parse.specs.declared.unit.UnitText.{UnitText}
+use Rattle.cdc_names.specs.declared.scope.Sort.{Sort}
+use Rattle.cdc_names.specs.declared.scope.Sort.TheVariants.{Scalar, Array, Parameter}
+use Rattle.cdc_names.specs.declared.scope.Scope.{Scope}
+use Rattle.cdc_names.specs.Constants.{constant}
+use Rattle.cdc_names.specs.Declarations.{Declares, declared_in}
+use Rattle.cdc_names.specs.Table.{added}
+use Rattle.cdc_names.specs.Uses.{unit_uses}
+
+abbrev pub sort_by_dimensions : ℕ → Sort
+sort_by_dimensions zero = Scalar
+sort_by_dimensions (suc n) = Array (suc n)
+
+abbrev pub sort_of : Declares → Sort
+sort_of d = if is_some d.value then Parameter else sort_by_dimensions (length d.bounds)
+
+-- the first declaration of a name counts
+abbrev pub sorts_from : List (List ℕ × Sort) → List Declares → List (List ℕ × Sort)
+sorts_from sorts [] = sorts
+sorts_from sorts (d ∷ ds) = sorts_from (added d.named.name (sort_of d) sorts) ds
+
+-- the value of a PARAMETER over those that are known
+abbrev pub value_in : List (List ℕ × ℤ) → Declares → Option ℤ
+value_in values d = option_and_then (constant values) d.value
+
+abbrev pub defined : List ℕ → Option ℤ → List (List ℕ × ℤ) → List (List ℕ × ℤ)
+defined name None values = values
+defined name (Some x) values = added name x values
+
+-- the PARAMETERs that are known after a declaration
+abbrev pub known_after : List (List ℕ × ℤ) → Declares → List (List ℕ × ℤ)
+known_after values d = defined d.named.name (value_in values d) values
+
+abbrev pub values_from : List (List ℕ × ℤ) → List Declares → List (List ℕ × ℤ)
+values_from values [] = values
+values_from values (d ∷ ds) = values_from (known_after values d) ds
+
+abbrev pub scope_of : UnitText → Scope
+scope_of u = record {
+  implicit = is_none u.none;
+  declarations = declared_in u.declarations;
+  sorts = sorts_from [] (declared_in u.declarations);
+  values = values_from [] (declared_in u.declarations);
+  uses = unit_uses u;
+}

@@ -1,0 +1,188 @@
+// The lists in which no name may stand twice.
+ghost use Rattle.std.specs.Prelude.{◌≡◌, ◌++◌, ◌∷◌, [], map, IfOk, OnOk};
+ghost use Rattle.cdc_names.specs.Declarations.{declared_in};
+ghost use Rattle.cdc_names.specs.Duplicates.{slot_names, slot_lists, node_lists, nodes_lists, branch_lists, branches_lists, dummy_names, declared_names, unit_lists, unit_name, head_names, name_lists};
+
+use crate::declaration::Label;
+use crate::declared::{add, declarations};
+use cdc_base::List;
+use cdc_parse::{Branch, Form, Named, Node, UnitText};
+use std::alloc::{AllocError, Global};
+
+fn label<'a>(named: &'a Named) -> Label<'a>
+    ensures { result ≡ named.now }
+{
+    Label { named }
+}
+
+fn labels<'a>(names: &mut List<Label<'a>>, more: &'a [Named]) -> Result<(), AllocError>
+    ensures { OnOk result (names.new ≡ names.old ++ more.now) }
+{
+    for named in more {
+        add(names, label(named))?;
+    }
+    Ok(())
+}
+
+fn slots<'a>(
+    alloc: Global,
+    out: &mut List<List<Label<'a>>>,
+    head: &'a Form,
+) -> Result<(), AllocError>
+    ensures { OnOk result (out.new ≡ out.old ++ slot_names head.now) }
+{
+    match head {
+        Form::Doall(l, privates) => {
+            let mut names = List::new(alloc);
+            add(&mut names, label(&l.var))?;
+            labels(&mut names, privates.as_slice())?;
+            add(out, names)
+        }
+        _ => Ok(()),
+    }
+}
+
+#[cycle(lists)]
+fn node<'a>(out: &mut List<List<Label<'a>>>, alloc: Global, n: &'a Node) -> Result<(), AllocError>
+    ensures { OnOk result (out.new ≡ out.old ++ node_lists n.now) }
+{
+    match n {
+        Node::Plain(_) => Ok(()),
+        Node::If(bs, other, _) => {
+            branches(out, alloc, bs.as_slice())?;
+            match other {
+                None => Ok(()),
+                Some(b) => branch(out, alloc, b),
+            }
+        }
+        Node::Loop(head, body, _) => {
+            slots(alloc, out, &head.form)?;
+            nodes(out, alloc, body.as_slice())
+        }
+    }
+}
+
+#[cycle(lists)]
+fn nodes<'a>(
+    out: &mut List<List<Label<'a>>>,
+    alloc: Global,
+    ns: &'a [Node],
+) -> Result<(), AllocError>
+    ensures { OnOk result (out.new ≡ out.old ++ nodes_lists ns.now) }
+{
+    for n in ns {
+        node(out, alloc, n)?;
+    }
+    Ok(())
+}
+
+#[cycle(lists)]
+fn branch<'a>(
+    out: &mut List<List<Label<'a>>>,
+    alloc: Global,
+    b: &'a Branch,
+) -> Result<(), AllocError>
+    ensures { OnOk result (out.new ≡ out.old ++ branch_lists b.now) }
+{
+    nodes(out, alloc, b.body.as_slice())
+}
+
+#[cycle(lists)]
+fn branches<'a>(
+    out: &mut List<List<Label<'a>>>,
+    alloc: Global,
+    bs: &'a [Branch],
+) -> Result<(), AllocError>
+    ensures { OnOk result (out.new ≡ out.old ++ branches_lists bs.now) }
+{
+    for b in bs {
+        branch(out, alloc, b)?;
+    }
+    Ok(())
+}
+
+fn declared<'a>(alloc: Global, unit: &'a UnitText) -> Result<List<Label<'a>>, AllocError>
+    ensures { IfOk result (λ ns. ns ≡ declared_names unit.now) }
+{
+    let declarations = declarations(alloc, unit.declarations.as_slice())?;
+    let ds = declarations.as_slice();
+    let mut names = List::new(alloc);
+    for d in ds {
+        add(&mut names, label(d.named))?;
+    }
+    Ok(names)
+}
+
+fn dummies<'a>(alloc: Global, head: &'a Form) -> Result<List<Label<'a>>, AllocError>
+    ensures { IfOk result (λ ns. ns ≡ dummy_names head.now) }
+{
+    let mut names = List::new(alloc);
+    if let Form::Subroutine(_, dummies) = head {
+        labels(&mut names, dummies.as_slice())?;
+    }
+    Ok(names)
+}
+
+fn unit<'a>(
+    alloc: Global,
+    out: &mut List<List<Label<'a>>>,
+    unit: &'a UnitText,
+) -> Result<(), AllocError>
+    ensures { OnOk result (out.new ≡ out.old ++ unit_lists unit.now) }
+{
+    let names = declared(alloc, unit)?;
+    let dummies = dummies(alloc, &unit.head.form)?;
+    add(out, names)?;
+    add(out, dummies)?;
+    nodes(out, alloc, unit.body.as_slice())
+}
+
+fn unit_name<'a>(names: &mut List<Label<'a>>, head: &'a Form) -> Result<(), AllocError>
+    ensures { OnOk result (names.new ≡ names.old ++ unit_name head.now) }
+{
+    match head {
+        Form::Program(name) => add(names, label(name)),
+        Form::Subroutine(name, _) => add(names, label(name)),
+        _ => Ok(()),
+    }
+}
+
+fn head_names<'a>(alloc: Global, units: &'a [UnitText]) -> Result<List<Label<'a>>, AllocError>
+    ensures { IfOk result (λ ns. ns ≡ head_names units.now) }
+{
+    let mut names = List::new(alloc);
+    for u in units {
+        unit_name(&mut names, &u.head.form)?;
+    }
+    Ok(names)
+}
+
+/// The lists in which no name may stand twice.
+pub fn name_lists<'a>(
+    alloc: Global,
+    units: &'a [UnitText],
+) -> Result<List<List<Label<'a>>>, AllocError>
+    ensures { IfOk result (λ ls. ls ≡ name_lists units.now) }
+{
+    let names = head_names(alloc, units)?;
+    let mut out = List::new(alloc);
+    add(&mut out, names)?;
+    for u in units {
+        unit(alloc, &mut out, u)?;
+    }
+    Ok(out)
+}
+
+/// For each DOALL its index and private names.
+pub fn slot_lists<'a>(
+    alloc: Global,
+    units: &'a [UnitText],
+) -> Result<List<List<Label<'a>>>, AllocError>
+    ensures { IfOk result (λ ls. ls ≡ slot_lists units.now) }
+{
+    let mut out = List::new(alloc);
+    for u in units {
+        nodes(&mut out, alloc, u.body.as_slice())?;
+    }
+    Ok(out)
+}

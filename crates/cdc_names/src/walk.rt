@@ -1,0 +1,288 @@
+ghost use Rattle.std.specs.Prelude.{◌≡◌, ◌++◌, ◌∷◌, [], map, IfOk, OnOk};
+ghost use Rattle.std.specs.Option.{option_copied};
+ghost use Rattle.cdc_names.specs.Places.{joined};
+ghost use Rattle.cdc_names.specs.Used.{used};
+ghost use Rattle.cdc_names.specs.Uses.{tree_uses, trees_uses, optional_uses, names_uses, spot_uses, spots_uses, actual_uses, shown_uses, bound_uses, item_uses, define_uses, control_uses, form_uses, statement_uses, statements_uses, closing_uses, node_uses, nodes_uses, branch_uses, branches_uses, unit_uses};
+
+use crate::declared::add;
+use crate::name_use::{NameUse, Role};
+use cdc_base::List;
+use cdc_parse::{
+    Bound, Branch, Declared, Define, Form, Loop, Named, Node, Shown, Spot, Statement, Tree,
+    UnitText,
+};
+use std::alloc::{AllocError, Global};
+
+fn name<'a>(
+    out: &mut List<NameUse<'a>>,
+    named: &'a Named,
+    role: Role,
+    subs: usize,
+) -> Result<(), AllocError>
+    ensures { OnOk result (out.new ≡ out.old ++ used named.now role subs ∷ []) }
+{
+    add(out, NameUse::new(named, role, subs))
+}
+
+fn names<'a>(out: &mut List<NameUse<'a>>, names: &'a [Named], role: Role) -> Result<(), AllocError>
+    ensures { OnOk result (out.new ≡ out.old ++ names_uses role names.now) }
+{
+    for n in names {
+        name(out, n, role, 0)?;
+    }
+    Ok(())
+}
+
+#[cycle(tree)]
+fn tree<'a>(out: &mut List<NameUse<'a>>, t: &'a Tree) -> Result<(), AllocError>
+    ensures { OnOk result (out.new ≡ out.old ++ tree_uses t.now) }
+{
+    match t {
+        Tree::Number(_, _) => Ok(()),
+        Tree::Name(n) => name(out, n, Role::Read, 0),
+        Tree::Apply(n, subs) => {
+            let subs = subs.as_slice();
+            name(out, n, Role::Read, subs.len())?;
+            trees(out, subs)
+        }
+        Tree::Paren(_, a) => tree(out, a),
+        Tree::Plus(_, a) => tree(out, a),
+        Tree::Un(_, _, a) => tree(out, a),
+        Tree::Bin(_, a, b) => {
+            tree(out, a)?;
+            tree(out, b)
+        }
+        Tree::Known(_, _, args) => trees(out, args.as_slice()),
+    }
+}
+
+#[cycle(tree)]
+fn trees<'a>(out: &mut List<NameUse<'a>>, ts: &'a [Tree]) -> Result<(), AllocError>
+    ensures { OnOk result (out.new ≡ out.old ++ trees_uses ts.now) }
+{
+    for t in ts {
+        tree(out, t)?;
+    }
+    Ok(())
+}
+
+fn optional<'a>(out: &mut List<NameUse<'a>>, t: &'a Option<Tree>) -> Result<(), AllocError>
+    ensures { OnOk result (out.new ≡ out.old ++ optional_uses t.now) }
+{
+    match t {
+        None => Ok(()),
+        Some(t) => tree(out, t),
+    }
+}
+
+fn spot<'a>(out: &mut List<NameUse<'a>>, s: &'a Spot, role: Role) -> Result<(), AllocError>
+    ensures { OnOk result (out.new ≡ out.old ++ spot_uses role s.now) }
+{
+    let subs = s.subs.as_slice();
+    name(out, &s.name, role, subs.len())?;
+    trees(out, subs)
+}
+
+fn spots<'a>(out: &mut List<NameUse<'a>>, ss: &'a [Spot], role: Role) -> Result<(), AllocError>
+    ensures { OnOk result (out.new ≡ out.old ++ spots_uses role ss.now) }
+{
+    for s in ss {
+        spot(out, s, role)?;
+    }
+    Ok(())
+}
+
+fn actual<'a>(out: &mut List<NameUse<'a>>, t: &'a Tree) -> Result<(), AllocError>
+    ensures { OnOk result (out.new ≡ out.old ++ actual_uses t.now) }
+{
+    match t {
+        Tree::Name(n) => name(out, n, Role::Actual, 0),
+        _ => tree(out, t),
+    }
+}
+
+fn actuals<'a>(out: &mut List<NameUse<'a>>, ts: &'a [Tree]) -> Result<(), AllocError>
+    ensures { OnOk result (out.new ≡ out.old ++ joined (map actual_uses ts.now)) }
+{
+    for t in ts {
+        actual(out, t)?;
+    }
+    Ok(())
+}
+
+fn shown<'a>(out: &mut List<NameUse<'a>>, item: &'a Shown) -> Result<(), AllocError>
+    ensures { OnOk result (out.new ≡ out.old ++ shown_uses item.now) }
+{
+    match item {
+        Shown::Text(_) => Ok(()),
+        Shown::Value(t) => tree(out, t),
+    }
+}
+
+fn shown_items<'a>(out: &mut List<NameUse<'a>>, items: &'a [Shown]) -> Result<(), AllocError>
+    ensures { OnOk result (out.new ≡ out.old ++ joined (map shown_uses items.now)) }
+{
+    for item in items {
+        shown(out, item)?;
+    }
+    Ok(())
+}
+
+fn bounds<'a>(out: &mut List<NameUse<'a>>, bs: &'a [Bound]) -> Result<(), AllocError>
+    ensures { OnOk result (out.new ≡ out.old ++ joined (map bound_uses bs.now)) }
+{
+    for b in bs {
+        optional(out, &b.low)?;
+        tree(out, &b.high)?;
+    }
+    Ok(())
+}
+
+fn variables<'a>(out: &mut List<NameUse<'a>>, items: &'a [Declared]) -> Result<(), AllocError>
+    ensures { OnOk result (out.new ≡ out.old ++ joined (map item_uses items.now)) }
+{
+    for item in items {
+        bounds(out, item.bounds.as_slice())?;
+    }
+    Ok(())
+}
+
+fn parameters<'a>(out: &mut List<NameUse<'a>>, items: &'a [Define]) -> Result<(), AllocError>
+    ensures { OnOk result (out.new ≡ out.old ++ joined (map define_uses items.now)) }
+{
+    for item in items {
+        tree(out, &item.value)?;
+    }
+    Ok(())
+}
+
+fn controls<'a>(out: &mut List<NameUse<'a>>, l: &'a Loop) -> Result<(), AllocError>
+    ensures { OnOk result (out.new ≡ out.old ++ control_uses l.now) }
+{
+    tree(out, &l.from)?;
+    tree(out, &l.to)?;
+    optional(out, &l.by)
+}
+
+#[cycle(form)]
+fn form<'a>(out: &mut List<NameUse<'a>>, f: &'a Form) -> Result<(), AllocError>
+    ensures { OnOk result (out.new ≡ out.old ++ form_uses f.now) }
+{
+    match f {
+        Form::Subroutine(_, dummies) => names(out, dummies.as_slice(), Role::Dummy),
+        Form::Integer(items) => variables(out, items.as_slice()),
+        Form::Parameter(items) => parameters(out, items.as_slice()),
+        Form::Assign(target, value) => {
+            spot(out, target, Role::Assigned)?;
+            tree(out, value)
+        }
+        Form::IfThen(cond) => tree(out, cond),
+        Form::ElseIf(cond) => tree(out, cond),
+        Form::LogicalIf(cond, s) => {
+            tree(out, cond)?;
+            statement(out, s)
+        }
+        Form::Do(l) => {
+            name(out, &l.var, Role::Counted, 0)?;
+            controls(out, l)
+        }
+        Form::Doall(l, privates) => {
+            name(out, &l.var, Role::Index, 0)?;
+            controls(out, l)?;
+            names(out, privates.as_slice(), Role::Private)
+        }
+        Form::Call(_, ts) => actuals(out, ts.as_slice()),
+        Form::Print(items) => shown_items(out, items.as_slice()),
+        Form::Read(ss) => spots(out, ss.as_slice(), Role::Input),
+        _ => Ok(()),
+    }
+}
+
+#[cycle(form)]
+fn statement<'a>(out: &mut List<NameUse<'a>>, s: &'a Statement) -> Result<(), AllocError>
+    ensures { OnOk result (out.new ≡ out.old ++ statement_uses s.now) }
+{
+    form(out, &s.form)
+}
+
+fn statements<'a>(out: &mut List<NameUse<'a>>, ss: &'a [Statement]) -> Result<(), AllocError>
+    ensures { OnOk result (out.new ≡ out.old ++ statements_uses ss.now) }
+{
+    for s in ss {
+        statement(out, s)?;
+    }
+    Ok(())
+}
+
+fn closing<'a>(out: &mut List<NameUse<'a>>, f: &'a Form) -> Result<(), AllocError>
+    ensures { OnOk result (out.new ≡ out.old ++ closing_uses f.now) }
+{
+    match f {
+        Form::Do(l) => name(out, &l.var, Role::Closed, 0),
+        Form::Doall(l, privates) => {
+            name(out, &l.var, Role::Closed, 0)?;
+            names(out, privates.as_slice(), Role::Closed)
+        }
+        _ => Ok(()),
+    }
+}
+
+#[cycle(node)]
+fn node<'a>(out: &mut List<NameUse<'a>>, n: &'a Node) -> Result<(), AllocError>
+    ensures { OnOk result (out.new ≡ out.old ++ node_uses n.now) }
+{
+    match n {
+        Node::Plain(s) => statement(out, s),
+        Node::If(bs, other, _) => {
+            branches(out, bs.as_slice())?;
+            match other {
+                None => Ok(()),
+                Some(b) => branch(out, b),
+            }
+        }
+        Node::Loop(head, body, _) => {
+            statement(out, head)?;
+            nodes(out, body.as_slice())?;
+            closing(out, &head.form)
+        }
+    }
+}
+
+#[cycle(node)]
+fn nodes<'a>(out: &mut List<NameUse<'a>>, ns: &'a [Node]) -> Result<(), AllocError>
+    ensures { OnOk result (out.new ≡ out.old ++ nodes_uses ns.now) }
+{
+    for n in ns {
+        node(out, n)?;
+    }
+    Ok(())
+}
+
+#[cycle(node)]
+fn branch<'a>(out: &mut List<NameUse<'a>>, b: &'a Branch) -> Result<(), AllocError>
+    ensures { OnOk result (out.new ≡ out.old ++ branch_uses b.now) }
+{
+    statement(out, &b.head)?;
+    nodes(out, b.body.as_slice())
+}
+
+#[cycle(node)]
+fn branches<'a>(out: &mut List<NameUse<'a>>, bs: &'a [Branch]) -> Result<(), AllocError>
+    ensures { OnOk result (out.new ≡ out.old ++ branches_uses bs.now) }
+{
+    for b in bs {
+        branch(out, b)?;
+    }
+    Ok(())
+}
+
+/// The uses of names in a unit, in the order of its text.
+pub fn unit_uses(alloc: Global, unit: &UnitText) -> Result<List<NameUse<'_>>, AllocError>
+    ensures { IfOk result (λ us. us ≡ unit_uses unit.now) }
+{
+    let mut out = List::new(alloc);
+    statement(&mut out, &unit.head)?;
+    statements(&mut out, unit.declarations.as_slice())?;
+    nodes(&mut out, unit.body.as_slice())?;
+    Ok(out)
+}
