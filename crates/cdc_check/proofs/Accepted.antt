@@ -1,0 +1,298 @@
+-- An accepted program without DOALL keeps what a resolved program keeps.
+use Rattle.std.proofs.Common.{◌≡◌, ℕ, zero, suc, ◌+◌, ◌<◌, ◌≤◌, Bool, true, false, List, [], ◌∷◌, ◌++◌, map, length, Option, Some, None, Result, Ok, Err, refl, ap, sym, subst, ◌∙◌, arith, append_assoc}
+use Rattle.std.specs.Prelude.{if◌then◌else◌, nat_lt, is_some, slice_get, IfOk}
+use Rattle.std.specs.Str.{bytes_eq}
+use Rattle.std.proofs.lemmas.Slice.Eq.{bytes_eq-Decides}
+use Rattle.cdc_parse.specs.declared.unit.UnitText.{UnitText}
+use Rattle.cdc_prog.specs.declared.expr.Var.TheVariants.{Object}
+use Rattle.cdc_prog.specs.declared.program.Kind.TheVariants as kind
+use Rattle.cdc_prog.specs.declared.program.Program.{Program}
+use Rattle.cdc_prog.specs.Plain as plain
+use Rattle.cdc_prog.specs.Translation.{program_of}
+use Rattle.cdc_prog.specs.Resolved.{AreLaidOut, StmtFits, IsResolved}
+use Rattle.cdc_prog.specs.Units.{shapes_in, body_in}
+use Rattle.cdc_names.specs.declared.scope.Sort.{Sort}
+use Rattle.cdc_names.specs.declared.scope.Scope.{Scope}
+use Rattle.cdc_names.specs.Duplicates.{duplicate_in, nodes_lists, slot_lists}
+use Rattle.cdc_names.specs.DoVariables.{do_variable_in}
+use Rattle.cdc_names.specs.NotConstant.{not_constant_in}
+use Rattle.cdc_names.specs.Places.{first_of}
+use Rattle.cdc_names.specs.Scopes.{scope_of}
+use Rattle.cdc_names.specs.Shapes.{is_misused, misused, misshapen, shape_in}
+use Rattle.cdc_names.specs.Table.{found, placed}
+use Rattle.cdc_names.specs.Undeclared.{undeclared_in}
+use Rattle.cdc_names.specs.Used.{Used}
+use Rattle.cdc_names.specs.Uses.{statement_uses, statements_uses, nodes_uses}
+use Rattle.cdc_names.proofs.Nexts.{found_placed}
+use Rattle.cdc_check.specs.declared.meaning.Meaning.{Meaning}
+use Rattle.cdc_check.specs.declared.meaning.Meaning.TheVariants as meaning
+use Rattle.cdc_check.specs.declared.progress.Shape.{Shape}
+use Rattle.cdc_check.specs.declared.progress.Progress.{Progress}
+use Rattle.cdc_check.specs.declared.refusal.CheckRefusal.{CheckRefusal}
+use Rattle.cdc_check.specs.declared.refusal.CheckRefusal.TheVariants as refusal
+use Rattle.cdc_check.specs.Threads.{next, numbered, each}
+use Rattle.cdc_check.specs.Layout.{laid_from, words_of}
+use Rattle.cdc_check.specs.Meanings.{surroundings}
+use Rattle.cdc_check.specs.Objects.{Naming, naming, shape, with_object, declared_from, implied_from, named_in}
+use Rattle.cdc_check.specs.Refusals.{Answers, or_else}
+use Rattle.cdc_check.specs.Statements.{nodes_in}
+use Rattle.cdc_check.specs.Units.{Whole, unit_in, units_from, nothing_yet, is_program, main_from}
+use Rattle.cdc_check.specs.Check.{names_refused, counts_refused, with_layout, finished, unless_refused, checked}
+use Rattle.cdc_check.proofs.Fitting as fitting
+use Rattle.cdc_check.proofs.Blocks as blocks
+use Rattle.cdc_check.proofs.Tables as tables
+use Rattle.cdc_check.proofs.Tables.{Grown, is_there, grown_by, declared_grown, implied_grown, same}
+use Rattle.cdc_check.proofs.Extents.{EachNone, none_first, sooner_none, at_none, AllFine, declared_fine, implied_fine, laid_out, all_shaped}
+
+-- ---- each used name stands for something
+there_kept : (unit : ℕ) (name : List ℕ) (n : Naming) (m : List ℕ) → is_there n.names m → is_there ((with_object unit name [] n).names) m
+there_kept unit name n m h = go (is_some (found name n.names))
+  where
+    pick : (b : Bool) → is_some (if b then Some (meaning.Variable (Object (numbered (length n.objects)))) else found m n.names) ≡ true
+    pick true = refl
+    pick false = h
+
+    go : (b : Bool) → is_there ((if b then n else naming (placed name (meaning.Variable (Object (numbered (length n.objects)))) n.names) (n.objects ++ shape unit name [] ∷ [])).names) m
+    go true = h
+    go false = subst (λ o. is_some o ≡ true) (sym (found_placed m name (meaning.Variable (Object (numbered (length n.objects)))) n.names)) (pick (bytes_eq m name))
+
+there_new : (unit : ℕ) (name : List ℕ) (n : Naming) → is_there ((with_object unit name [] n).names) name
+there_new unit name n = go (is_some (found name n.names)) refl
+  where
+    pick : (b : Bool) → b ≡ true → is_some (if b then Some (meaning.Variable (Object (numbered (length n.objects)))) else found name n.names) ≡ true
+    pick true e = refl
+    pick false e = cc
+
+    go : (b : Bool) → is_some (found name n.names) ≡ b → is_there ((if b then n else naming (placed name (meaning.Variable (Object (numbered (length n.objects)))) n.names) (n.objects ++ shape unit name [] ∷ [])).names) name
+    go true e = e
+    go false e = subst (λ o. is_some o ≡ true) (sym (found_placed name name (meaning.Variable (Object (numbered (length n.objects)))) n.names)) (pick (bytes_eq name name) ((bytes_eq-Decides name name).1 refl))
+
+implied_there : (unit : ℕ) (us : List Used) (n : Naming) (m : List ℕ) → is_there n.names m → is_there ((implied_from unit n us).names) m
+implied_there unit [] n m h = h
+implied_there unit (u ∷ us) n m h = implied_there unit us (with_object unit u.name [] n) m (there_kept unit u.name n m h)
+
+abbrev EachThere : List (List ℕ × Meaning) → List Used → Type 0
+EachThere names [] = Unit {0}
+EachThere names (u ∷ us) = is_there names u.name × EachThere names us
+
+implied_all : (unit : ℕ) (us : List Used) (n : Naming) → EachThere ((implied_from unit n us).names) us
+implied_all unit [] n = tt
+implied_all unit (u ∷ us) n =
+    (implied_there unit us (with_object unit u.name [] n) u.name (there_new unit u.name n), implied_all unit us (with_object unit u.name [] n))
+
+module _ (F : List Shape) (small : length F ≤ 1024) where
+  agree : (sorts : List (List ℕ × Sort)) (names : List (List ℕ × Meaning)) (a : Option Meaning) (b : Option Sort) → is_some a ≡ true → tables.Half F small a b → fitting.Agrees (laid_from 0 F) sorts names a b
+  agree sorts names None b t h = cc
+  agree sorts names (Some m) b t h = h
+
+  all_good : (s : Scope) (names : List (List ℕ × Meaning)) (us : List Used) → EachThere names us → ((m : List ℕ) → tables.Half F small (found m names) (found m s.sorts)) → EachNone (misused s) us
+      → fitting.AllGood (laid_from 0 F) s.sorts names us
+  all_good s names [] t h none = tt
+  all_good s names (u ∷ us) t h none = (
+    record {
+      fits = at_none (is_misused (found u.name s.sorts) u.role u.subs) u.place none.0;
+      agrees = agree s.sorts names (found u.name names) (found u.name s.sorts) t.0 (h u.name);
+    },
+    all_good s names us t.1 h none.1,
+  )
+
+  named_good : (number : ℕ) (u : UnitText) (objects rest : List Shape) → F ≡ (named_in number (scope_of u) objects).objects ++ rest → shape_in (scope_of u) ≡ None
+      → fitting.AllGood (laid_from 0 F) ((scope_of u).sorts) ((named_in number (scope_of u) objects).names) ((scope_of u).uses)
+  named_good number u objects rest e none =
+      let s : Scope = scope_of u in
+      let d : Naming = declared_from number s.values (naming [] objects) s.declarations in
+      let both : (first_of (misused s) s.uses ≡ None) × (first_of (misshapen s.values) s.declarations ≡ None) = sooner_none (first_of (misused s) s.uses) (first_of (misshapen s.values) s.declarations) none in
+      let g : Grown d.objects ((implied_from number d s.uses).objects) = implied_grown number d s.uses in
+      let h : F ≡ d.objects ++ (g.more ++ rest) = e ∙ ap (λ l. l ++ rest) g.is ∙ append_assoc d.objects g.more rest in
+      let locked : tables.Locked F small d.names s.sorts = tables.declared_locked F small number s.values s.declarations (naming [] objects) [] (g.more ++ rest) h (λ m. tt) in
+      all_good s ((implied_from number d s.uses).names) s.uses (implied_all number s.uses d)
+      (tables.implied_half F small number s.uses d s.sorts rest e (tables.locked_half F small d.names s.sorts locked)) (none_first (misused s) s.uses both.0)
+
+-- ---- objects only grow, and are well shaped
+named_grown : (number : ℕ) (s : Scope) (objects : List Shape) → Grown objects ((named_in number s objects).objects)
+named_grown number s objects =
+    grown_by objects ((declared_from number s.values (naming [] objects) s.declarations).objects) ((named_in number s objects).objects)
+    (declared_grown number s.values (naming [] objects) s.declarations) (implied_grown number (declared_from number s.values (naming [] objects) s.declarations) s.uses)
+
+named_fine : (number : ℕ) (s : Scope) (objects : List Shape) → shape_in s ≡ None → AllFine objects → AllFine ((named_in number s objects).objects)
+named_fine number s objects none f =
+    let both : (first_of (misused s) s.uses ≡ None) × (first_of (misshapen s.values) s.declarations ≡ None) = sooner_none (first_of (misused s) s.uses) (first_of (misshapen s.values) s.declarations) none in
+    implied_fine number s.uses (declared_from number s.values (naming [] objects) s.declarations)
+    (declared_fine number s.values s.declarations (naming [] objects) (none_first (misshapen s.values) s.declarations both.1) f)
+
+units_grown : (us : List UnitText) (number : ℕ) (k : Whole) → Grown k.objects ((each (units_from number us (map scope_of us)) k).1.objects)
+units_grown [] number k = same k.objects
+units_grown (u ∷ us) number k =
+    grown_by k.objects ((unit_in number u (scope_of u) k).1.objects) ((each (units_from (next number) us (map scope_of us)) ((unit_in number u (scope_of u) k).1)).1.objects)
+    (named_grown number (scope_of u) k.objects) (units_grown us (next number) ((unit_in number u (scope_of u) k).1))
+
+units_fine : (us : List UnitText) (number : ℕ) (k : Whole) → EachNone shape_in (map scope_of us) → AllFine k.objects → AllFine ((each (units_from number us (map scope_of us)) k).1.objects)
+units_fine [] number k none f = f
+units_fine (u ∷ us) number k none f = units_fine us (next number) ((unit_in number u (scope_of u) k).1) none.1 (named_fine number (scope_of u) k.objects none.0 f)
+
+units_length : (us : List UnitText) (number : ℕ) (k : Whole) → length ((each (units_from number us (map scope_of us)) k).0) ≡ length us
+units_length [] number k = refl
+units_length (u ∷ us) number k = ap suc (units_length us (next number) ((unit_in number u (scope_of u) k).1))
+
+nil_left : {A : Type 0} (xs ys : List A) → xs ++ ys ≡ [] → xs ≡ []
+nil_left [] ys h = refl
+nil_left (x ∷ xs) ys h = cc
+
+nil_right : {A : Type 0} (xs ys : List A) → xs ++ ys ≡ [] → ys ≡ []
+nil_right [] ys h = h
+nil_right (x ∷ xs) ys h = cc
+
+module _ (listed : List plain.ProgramUnit) (main : ℕ) (F : List Shape) (texts : List (List ℕ)) (sites doalls words : ℕ) (small : length F ≤ 1024) where
+  abbrev p : plain.Program
+  p = record { units = listed; main = main; objects = laid_from 0 F; texts = texts; sites = sites; doalls = doalls; words = words }
+
+  record UnitDone (u : plain.ProgramUnit) : Type 0 where
+    pub alone : u.dummies ≡ []
+    pub fits : StmtFits p (λ v. 0) 0 [] 0 u.body
+
+  record UnitEnds (k : Whole) (r : plain.ProgramUnit × Whole) : Type 0 where
+    pub grows : length k.progress.texts ≤ length (r.1.progress.texts)
+    pub done : length (r.1.progress.texts) ≤ length texts → UnitDone r.0
+
+  unit_ends : (number : ℕ) (u : UnitText) (k : Whole) (rest : List Shape) → F ≡ (named_in number (scope_of u) k.objects).objects ++ rest → shape_in (scope_of u) ≡ None → nodes_lists u.body ≡ []
+      → UnitEnds k (unit_in number u (scope_of u) k)
+  unit_ends number u k rest e none serial =
+      let names : List (List ℕ × Meaning) = (named_in number (scope_of u) k.objects).names in
+      let sorts : List (List ℕ × Sort) = (scope_of u).sorts in
+      let good : fitting.AllGood (laid_from 0 F) sorts names ((statement_uses u.head ++ statements_uses u.declarations) ++ nodes_uses u.body) = named_good F small number u k.objects rest e none in
+      let body : fitting.AllGood (laid_from 0 F) sorts names (nodes_uses u.body) = fitting.good_right (laid_from 0 F) sorts names (statement_uses u.head ++ statements_uses u.declarations) (nodes_uses u.body) good in
+      let ended : blocks.ListEnds p sorts names k.progress (nodes_in (surroundings names []) u.body k.progress) = blocks.nodes_end p sorts names u.body body serial k.progress in
+      record { grows = ended.grows; done = λ t. record { alone = refl; fits = ended.fits t } }
+
+  abbrev EachDone : List plain.ProgramUnit → Type 0
+  EachDone [] = Unit {0}
+  EachDone (u ∷ us) = UnitDone u × EachDone us
+
+  record UnitsEnd (k : Whole) (r : List plain.ProgramUnit × Whole) : Type 0 where
+    pub grows : length k.progress.texts ≤ length (r.1.progress.texts)
+    pub done : length (r.1.progress.texts) ≤ length texts → EachDone r.0
+
+  units_end : (us : List UnitText) (number : ℕ) (k : Whole) (rest : List Shape) → F ≡ (each (units_from number us (map scope_of us)) k).1.objects ++ rest
+      → EachNone shape_in (map scope_of us) → slot_lists us ≡ [] → UnitsEnd k (each (units_from number us (map scope_of us)) k)
+  units_end [] number k rest e none serial = record { grows = omega arith; done = λ t. tt }
+  units_end (u ∷ us) number k rest e none serial =
+      let m : Whole = (unit_in number u (scope_of u) k).1 in
+      let g : Grown m.objects ((each (units_from (next number) us (map scope_of us)) m).1.objects) = units_grown us (next number) m in
+      let h : F ≡ m.objects ++ (g.more ++ rest) = e ∙ ap (λ l. l ++ rest) g.is ∙ append_assoc m.objects g.more rest in
+      let one : UnitEnds k (unit_in number u (scope_of u) k) = unit_ends number u k (g.more ++ rest) h none.0 (nil_left (nodes_lists u.body) (slot_lists us) serial) in
+      let more : UnitsEnd m (each (units_from (next number) us (map scope_of us)) m) = units_end us (next number) m rest e none.1 (nil_right (nodes_lists u.body) (slot_lists us) serial) in
+      let low : length k.progress.texts ≤ length m.progress.texts = one.grows in
+      let high : length m.progress.texts ≤ length ((each (units_from (next number) us (map scope_of us)) m).1.progress.texts) = more.grows in
+      record { grows = omega arith; done = λ t. (one.done (omega arith), more.done t) }
+
+  alone_at : (us : List plain.ProgramUnit) → EachDone us → (i : ℕ) → shapes_in (slice_get us i) ≡ []
+  alone_at [] d i = refl
+  alone_at (u ∷ us) d zero = ap (map (λ x. x.dims)) d.0.alone
+  alone_at (u ∷ us) d (suc i) = alone_at us d.1 i
+
+  fits_at : (us : List plain.ProgramUnit) → EachDone us → (i : ℕ) → StmtFits p (λ v. 0) 0 [] 0 (body_in (slice_get us i))
+  fits_at [] d i = tt
+  fits_at (u ∷ us) d zero = d.0.fits
+  fits_at (u ∷ us) d (suc i) = fits_at us d.1 i
+
+-- ---- the main unit
+next_le : (k : ℕ) → next k ≤ k + 1
+next_le k = grind arith
+
+pick_low : (b : Bool) (k m n : ℕ) → k < n → m < n → (if b then k else m) < n
+pick_low true k m n h l = h
+pick_low false k m n h l = l
+
+main_low : (us : List UnitText) (k n : ℕ) → k + length us ≤ n → 0 < n → main_from k us < n
+main_low [] k n h l = l
+main_low (u ∷ us) k n h l =
+    let step : next k ≤ k + 1 = next_le k in
+    pick_low (is_program u.head.form) k (main_from (next k) us) n (omega arith) (main_low us (next k) n (omega arith) l)
+
+-- ---- what an accepted program passed
+or_none : {A : Type 0} (a : Option A) (kind : A → CheckRefusal) (later : Option CheckRefusal) → or_else a kind later ≡ None → (a ≡ None) × (later ≡ None)
+or_none None kind later h = (refl, h)
+or_none (Some a) kind later h = cc
+
+shapes_none : (us : List UnitText) (ss : List Scope) → names_refused us ss ≡ None → first_of shape_in ss ≡ None
+shapes_none us ss h =
+    let a : (first_of undeclared_in ss ≡ None) × (or_else (duplicate_in us) (λ p. refusal.Duplicate p.0 p.1) (or_else (first_of not_constant_in ss) refusal.NotConstant (or_else (first_of shape_in ss) refusal.Shape (or_else (first_of do_variable_in ss) refusal.DoVariable None))) ≡ None) =
+    or_none (first_of undeclared_in ss) refusal.Undeclared (or_else (duplicate_in us) (λ p. refusal.Duplicate p.0 p.1) (or_else (first_of not_constant_in ss) refusal.NotConstant (or_else (first_of shape_in ss) refusal.Shape (or_else (first_of do_variable_in ss) refusal.DoVariable None)))) h in
+    let b : (duplicate_in us ≡ None) × (or_else (first_of not_constant_in ss) refusal.NotConstant (or_else (first_of shape_in ss) refusal.Shape (or_else (first_of do_variable_in ss) refusal.DoVariable None)) ≡ None) =
+    or_none (duplicate_in us) (λ p. refusal.Duplicate p.0 p.1) (or_else (first_of not_constant_in ss) refusal.NotConstant (or_else (first_of shape_in ss) refusal.Shape (or_else (first_of do_variable_in ss) refusal.DoVariable None))) a.1 in
+    let c : (first_of not_constant_in ss ≡ None) × (or_else (first_of shape_in ss) refusal.Shape (or_else (first_of do_variable_in ss) refusal.DoVariable None) ≡ None) =
+    or_none (first_of not_constant_in ss) refusal.NotConstant (or_else (first_of shape_in ss) refusal.Shape (or_else (first_of do_variable_in ss) refusal.DoVariable None)) b.1 in
+    (or_none (first_of shape_in ss) refusal.Shape (or_else (first_of do_variable_in ss) refusal.DoVariable None) c.1).0
+
+unless_none : (a : Option CheckRefusal) (r : Result plain.Program CheckRefusal) (q : plain.Program) → unless_refused a r ≡ Ok q → (a ≡ None) × (r ≡ Ok q)
+unless_none None r q h = (refl, h)
+unless_none (Some e) r q h = cc
+
+abbrev program_of_parts : ℕ → List plain.ProgramUnit → Whole → plain.Program
+program_of_parts main listed w = record { units = listed; main = main; objects = laid_from 0 w.objects; texts = w.progress.texts; sites = w.progress.sites; doalls = w.progress.doalls; words = words_of w.objects }
+
+record Passed (main : ℕ) (r : List plain.ProgramUnit × Whole) (q : plain.Program) : Type 0 where
+  pub few : length (r.1.objects) ≤ 1024
+  pub small : words_of (r.1.objects) ≤ 4194304
+  pub is : program_of_parts main r.0 r.1 ≡ q
+
+not_more : (limit n : ℕ) → nat_lt limit n ≡ false → n ≤ limit
+not_more limit n h = grind arith
+
+finish_passed : (main : ℕ) (r : List plain.ProgramUnit × Whole) (q : plain.Program) → finished main r ≡ Ok q → Passed main r q
+finish_passed main r q h = go (nat_lt 1024 (length (r.1.objects))) refl (nat_lt 4194304 (words_of (r.1.objects))) refl (nat_lt 16384 r.1.progress.sites) h
+  where
+    go : (a : Bool) → nat_lt 1024 (length (r.1.objects)) ≡ a → (b : Bool) → nat_lt 4194304 (words_of (r.1.objects)) ≡ b → (c : Bool)
+        → (if a then Err (refusal.TooMany kind.Objects) else with_layout main r.0 r.1.progress (if b then Err (refusal.TooMany kind.Words) else Ok (laid_from 0 r.1.objects, words_of r.1.objects))) ≡ Ok q → Passed main r q
+    go true e b f c h = cc
+    go false e true f c h = cc
+    go false e false f c h = last (nat_lt 16384 r.1.progress.sites) h
+      where
+        last : (d : Bool) → (if d then Err (refusal.TooMany kind.Sites) else Ok (program_of_parts main r.0 r.1)) ≡ Ok q → Passed main r q
+        last true h = cc
+        last false h = record { few = not_more 1024 (length (r.1.objects)) e; small = not_more 4194304 (words_of (r.1.objects)) f; is = cc }
+
+-- ---- the law
+resolved_parts : (us : List UnitText) → EachNone shape_in (map scope_of us) → slot_lists us ≡ [] → 0 < length us
+    → length ((each (units_from 0 us (map scope_of us)) nothing_yet).1.objects) ≤ 1024 → words_of ((each (units_from 0 us (map scope_of us)) nothing_yet).1.objects) ≤ 4194304
+    → IsResolved (program_of_parts (main_from 0 us) ((each (units_from 0 us (map scope_of us)) nothing_yet).0) ((each (units_from 0 us (map scope_of us)) nothing_yet).1))
+resolved_parts us none serial some few small =
+    let r : List plain.ProgramUnit × Whole = each (units_from 0 us (map scope_of us)) nothing_yet in
+    let F : List Shape = r.1.objects in
+    let w : Progress = r.1.progress in
+    let fine : AllFine F = units_fine us 0 nothing_yet none tt in
+    let count : length r.0 ≡ length us = units_length us 0 nothing_yet in
+    let zero_more : 0 + words_of F ≡ words_of F = omega arith in
+    let ended : UnitsEnd r.0 (main_from 0 us) F w.texts w.sites w.doalls (words_of F) few nothing_yet r = units_end r.0 (main_from 0 us) F w.texts w.sites w.doalls (words_of F) few us 0 nothing_yet [] (whole_list F) none serial in
+    let done : EachDone r.0 (main_from 0 us) F w.texts w.sites w.doalls (words_of F) few r.0 = ended.done (omega arith) in
+    record {
+      laid_out = subst (AreLaidOut 0 (laid_from 0 F)) zero_more (laid_out 0 F fine);
+      shaped = all_shaped 0 F fine;
+      small = small;
+      main = main_low us 0 (length r.0) (omega arith) (omega arith);
+      main_alone = alone_at r.0 (main_from 0 us) F w.texts w.sites w.doalls (words_of F) few r.0 done (main_from 0 us);
+      ranks = λ u. 0;
+      ranked = λ u l. omega arith;
+      fits = λ u l. subst (λ shapes. StmtFits (program_of_parts (main_from 0 us) r.0 r.1) (λ v. 0) 0 shapes 0 (body_in (slice_get r.0 u)))
+          (sym (alone_at r.0 (main_from 0 us) F w.texts w.sites w.doalls (words_of F) few r.0 done u))
+          (fits_at r.0 (main_from 0 us) F w.texts w.sites w.doalls (words_of F) few r.0 done u);
+    }
+  where
+    whole_list : (xs : List Shape) → xs ≡ xs ++ []
+    whole_list [] = refl
+    whole_list (x ∷ xs) = ap (λ l. x ∷ l) (whole_list xs)
+
+pub accepted_is_resolved : (us : List UnitText) (q : plain.Program) → checked us ≡ Ok q → slot_lists us ≡ [] → 0 < length us → IsResolved q
+accepted_is_resolved us q h serial some =
+    let ss : List Scope = map scope_of us in
+    let r : List plain.ProgramUnit × Whole = each (units_from 0 us ss) nothing_yet in
+    let a : (names_refused us ss ≡ None) × (unless_refused (counts_refused us) (finished (main_from 0 us) r) ≡ Ok q) = unless_none (names_refused us ss) (unless_refused (counts_refused us) (finished (main_from 0 us) r)) q h in
+    let b : (counts_refused us ≡ None) × (finished (main_from 0 us) r ≡ Ok q) = unless_none (counts_refused us) (finished (main_from 0 us) r) q a.1 in
+    let passed : Passed (main_from 0 us) r q = finish_passed (main_from 0 us) r q b.1 in
+    let none : EachNone shape_in ss = none_first shape_in ss (shapes_none us ss a.0) in
+    subst IsResolved passed.is (resolved_parts us none serial some passed.few passed.small)
+
+-- the same of the answer of a call
+pub answers_resolved : (us : List UnitText) (r : Result Program CheckRefusal) → Answers program_of r (checked us) → slot_lists us ≡ [] → 0 < length us → IfOk r (λ program. IsResolved (program_of program))
+answers_resolved us (Ok program) h = accepted_is_resolved us (program_of program) h
+answers_resolved us (Err e) h = λ serial some. tt

@@ -1,0 +1,11 @@
+pub mod Capped
+pub mod Laid
+pub mod Trees
+pub mod Fitting
+pub mod Forms
+pub mod Stating
+pub mod Nodes
+pub mod Blocks
+pub mod Tables
+pub mod Extents
+pub mod Accepted

@@ -1,0 +1,9 @@
+pub mod Threads
+pub mod Meanings
+pub mod Expressions
+pub mod Statements
+pub mod Objects
+pub mod Layout
+pub mod Refusals
+pub mod Units
+pub mod Check

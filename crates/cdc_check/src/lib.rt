@@ -1,0 +1,18 @@
+//! The resolved program of units, or the first refusal.
+#![tactic(auto)]
+
+mod constructs;
+mod copies;
+mod expressions;
+mod layout;
+mod meaning;
+mod objects;
+mod program;
+mod progress;
+mod refusal;
+mod refuse;
+mod simple;
+mod units;
+
+pub use program::check;
+pub use refusal::CheckRefusal;

@@ -1,0 +1,77 @@
+ghost use Rattle.std.specs.Prelude.{◌≡◌, ◌<◌, [], map, length, IfOk};
+ghost use Rattle.cdc_prog.specs.Resolved.{IsResolved};
+ghost use Rattle.cdc_names.specs.Duplicates.{slot_lists};
+ghost use Rattle.cdc_prog.specs.Translation.{program_of, unit_of};
+ghost use Rattle.cdc_check.specs.Units.{whole};
+ghost use Rattle.cdc_check.specs.Check.{finished, checked};
+ghost use Rattle.cdc_check.specs.Refusals.{Answers};
+
+use crate::layout::layout;
+use crate::progress::{Progress, Shape};
+use crate::refusal::CheckRefusal;
+use crate::refuse::{refuse_counts, refuse_names};
+use crate::units::{main_unit, resolved_units};
+use cdc_base::List;
+use cdc_names::scopes_of;
+use cdc_parse::UnitText;
+use cdc_prog::{Kind, Program, Unit};
+use std::alloc::Global;
+
+fn finish(
+    alloc: Global,
+    main: u32,
+    units: List<Unit>,
+    objects: &[Shape],
+    state: Progress,
+) -> Result<Program, CheckRefusal>
+    ensures { Answers program_of result (finished main (map unit_of units, whole objects.now state)) }
+{
+    let Progress {
+        sites,
+        doalls,
+        texts,
+    } = state;
+    if objects.len() > 1024 {
+        return Err(CheckRefusal::TooMany(Kind::Objects));
+    }
+    let (objects, words) = layout(alloc, objects)?;
+    if sites > 16384 {
+        return Err(CheckRefusal::TooMany(Kind::Sites));
+    }
+    Ok(Program {
+        units,
+        main,
+        objects,
+        texts,
+        sites,
+        doalls,
+        words,
+    })
+}
+
+fn program(alloc: Global, units: &[UnitText]) -> Result<Program, CheckRefusal>
+    ensures { Answers program_of result (checked units.now) }
+{
+    let scopes = scopes_of(alloc, units)?;
+    refuse_names(alloc, units, scopes.as_slice())?;
+    refuse_counts(alloc, units)?;
+    let mut objects = List::new(alloc);
+    let mut state = Progress {
+        sites: 0,
+        doalls: 0,
+        texts: List::new(alloc),
+    };
+    let resolved = resolved_units(alloc, &mut objects, &mut state, units, scopes.as_slice())?;
+    finish(alloc, main_unit(units), resolved, objects.as_slice(), state)
+}
+
+/// The resolved program of units without SUBROUTINE and CALL, or the first refusal in the order
+/// of the kinds; within a kind the place that stands first.
+pub fn check(alloc: Global, units: &List<UnitText>) -> Result<Program, CheckRefusal>
+    ensures answer { Answers program_of result (checked units.now) }
+
+    // Without DOALL loops each access of an accepted program lies in its memory.
+    ensures resolved { slot_lists units.now ≡ [] → 0 < length units.now → IfOk result (λ p. IsResolved (program_of p)) }
+{
+    program(alloc, units.as_slice())
+}
