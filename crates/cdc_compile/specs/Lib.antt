@@ -1,0 +1,5 @@
+pub mod Limits
+pub mod Refusals
+pub mod Texts
+pub mod Unbuilt
+pub mod Source

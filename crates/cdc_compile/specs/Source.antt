@@ -1,0 +1,91 @@
+-- What is answered for a source: its resolved program, or the first of its refusals in the order of the stages.
+use Rattle.std.specs.Prelude.{◌≡◌, ℕ, ◌<◌, ◌≤◌, ◌⊎◌, List, length, Result, Ok, Err}
+use Rattle.cdc_token.specs.declared.token.Line.{Line}
+use Rattle.cdc_token.specs.declared.token.LexRefusal.{LexRefusal}
+use Rattle.cdc_token.specs.declared.token.LexRefusal.TheVariants as l
+use Rattle.cdc_token.specs.Logical.{AreLogicalLines}
+use Rattle.cdc_token.specs.Refusals.{IsRefused}
+use Rattle.cdc_parse.specs.declared.form.Statement.{Statement}
+use Rattle.cdc_parse.specs.declared.unit.UnitText.{UnitText}
+use Rattle.cdc_parse.specs.declared.refusal.ParseRefusal.{ParseRefusal}
+use Rattle.cdc_parse.specs.declared.refusal.ParseRefusal.TheVariants as p
+use Rattle.cdc_parse.specs.Lines.{AreStatements}
+use Rattle.cdc_parse.specs.Units.{AreNested}
+use Rattle.cdc_prog.specs.declared.program.Kind.TheVariants as k
+use Rattle.cdc_prog.specs.Plain as plain
+use Rattle.cdc_check.specs.declared.refusal.CheckRefusal.{CheckRefusal}
+use Rattle.cdc_check.specs.declared.refusal.CheckRefusal.TheVariants as c
+use Rattle.cdc_check.specs.Check.{checked}
+use Rattle.cdc_compile.specs.declared.refusal.Refusal.{Refusal}
+use Rattle.cdc_compile.specs.declared.refusal.Refusal.TheVariants.{Lex, Parse, Check, Memory}
+use Rattle.cdc_compile.specs.Limits.{limit}
+use Rattle.cdc_compile.specs.Unbuilt.{AllBuilt, IsLeastUnbuilt}
+
+-- ---- a source that no stage so far refuses
+
+-- the source is within its limit, and these are its logical lines
+pub record HasLines (source : List ℕ) (lines : List Line) : Type 0 where
+  pub within : length source ≤ limit k.Source
+  pub are_lines : AreLogicalLines source lines
+
+-- these are the statements of its lines
+pub record HasStatements (source : List ℕ) (statements : List Statement) : Type 0 where
+  pub lines : List Line
+  pub has_lines : HasLines source lines
+  pub are_statements : AreStatements lines (Ok statements)
+
+-- these are the units of its statements
+pub record HasUnits (source : List ℕ) (statements : List Statement) (units : List UnitText) : Type 0 where
+  pub has_statements : HasStatements source statements
+  pub are_units : AreNested statements (Ok units)
+
+-- these are its units, and each of their statements is built
+pub record HasBuiltUnits (source : List ℕ) (units : List UnitText) : Type 0 where
+  pub statements : List Statement
+  pub has_units : HasUnits source statements units
+  pub all_built : AllBuilt statements
+
+-- ---- why one is refused
+
+-- its lines are no statements
+pub record LinesRefused (source : List ℕ) (refusal : ParseRefusal) : Type 0 where
+  pub lines : List Line
+  pub has_lines : HasLines source lines
+  pub refused : AreStatements lines (Err refusal)
+
+-- its statements are no units
+pub record StatementsRefused (source : List ℕ) (refusal : ParseRefusal) : Type 0 where
+  pub statements : List Statement
+  pub has_statements : HasStatements source statements
+  pub refused : AreNested statements (Err refusal)
+
+-- a statement of its units is not built
+pub record UnitsRefused (source : List ℕ) (number : ℕ) : Type 0 where
+  pub statements : List Statement
+  pub units : List UnitText
+  pub has_units : HasUnits source statements units
+  pub least : IsLeastUnbuilt statements number
+
+abbrev pub IsLexRefused : List ℕ → LexRefusal → Type 0
+IsLexRefused source l.Memory = ⊥
+IsLexRefused source refusal = (length source ≤ limit k.Source) × IsRefused source refusal
+
+abbrev pub IsParseRefused : List ℕ → ParseRefusal → Type 0
+IsParseRefused source (p.NotAStatement n) = LinesRefused source (p.NotAStatement n) ⊎ UnitsRefused source n
+IsParseRefused source (p.Depth n) = LinesRefused source (p.Depth n) ⊎ StatementsRefused source (p.Depth n)
+IsParseRefused source (p.Nesting n) = StatementsRefused source (p.Nesting n)
+IsParseRefused source p.Memory = ⊥
+
+-- a source over its limit, or units that the check refuses
+abbrev pub IsCheckRefused : List ℕ → CheckRefusal → Type 0
+IsCheckRefused source (c.TooMany k.Source) = limit k.Source < length source
+IsCheckRefused source c.Memory = ⊥
+IsCheckRefused source refusal = (units : List UnitText) × HasBuiltUnits source units × (checked units ≡ Err refusal)
+
+-- What is answered for the source. Want of memory is free, and has one answer.
+abbrev pub IsProgramOf : List ℕ → Result plain.Program Refusal → Type 0
+IsProgramOf source (Ok program) = (units : List UnitText) × HasBuiltUnits source units × (checked units ≡ Ok program)
+IsProgramOf source (Err (Lex refusal)) = IsLexRefused source refusal
+IsProgramOf source (Err (Parse refusal)) = IsParseRefused source refusal
+IsProgramOf source (Err (Check refusal)) = IsCheckRefused source refusal
+IsProgramOf source (Err Memory) = Unit {0}

@@ -1,0 +1,16 @@
+//! The compiler from a source to its resolved program, and the texts of its answers.
+#![tactic(auto)]
+
+mod accepted;
+mod limits;
+mod refusal;
+mod refused;
+mod source;
+#[cfg(test)]
+mod tests;
+mod unbuilt;
+
+pub use accepted::write_accepted;
+pub use refusal::Refusal;
+pub use refused::write_refusal;
+pub use source::program;

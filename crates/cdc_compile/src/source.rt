@@ -1,0 +1,61 @@
+//! From a source to its resolved program.
+
+ghost use Rattle.std.specs.Prelude.{Err, IfOk, IfErr};
+ghost use Rattle.std.specs.Result.{result_map_both};
+ghost use Rattle.cdc_prog.specs.Translation.{program_of};
+ghost use Rattle.cdc_compile.specs.Source.{HasLines, HasStatements, HasBuiltUnits, IsProgramOf};
+
+use crate::limits::limit;
+use crate::refusal::Refusal;
+use crate::unbuilt::first_unbuilt;
+use cdc_base::List;
+use cdc_check::{CheckRefusal, check};
+use cdc_parse::{ParseRefusal, Statement, UnitText, statements, units};
+use cdc_prog::{Kind, Program};
+use cdc_token::{Line, logical_lines};
+use std::alloc::Global;
+
+fn lines_of(alloc: Global, source: &[u8]) -> Result<List<Line>, Refusal>
+    ensures lines { IfOk result (HasLines source.now) }
+    ensures refused { IfErr result (λ refusal. IsProgramOf source.now (Err refusal)) }
+{
+    if source.len() as u64 > limit(Kind::Source) {
+        return Err(Refusal::Check(CheckRefusal::TooMany(Kind::Source)));
+    }
+    Ok(logical_lines(alloc, source)?)
+}
+
+fn statements_of(alloc: Global, source: &[u8]) -> Result<List<Statement>, Refusal>
+    ensures statements { IfOk result (HasStatements source.now) }
+    ensures refused { IfErr result (λ refusal. IsProgramOf source.now (Err refusal)) }
+{
+    let lines = lines_of(alloc, source)?;
+    Ok(statements(alloc, &lines)?)
+}
+
+fn units_of(alloc: Global, source: &[u8]) -> Result<List<UnitText>, Refusal>
+    ensures units { IfOk result (HasBuiltUnits source.now) }
+    ensures refused { IfErr result (λ refusal. IsProgramOf source.now (Err refusal)) }
+{
+    let statements = statements_of(alloc, source)?;
+    let unbuilt = first_unbuilt(statements.as_slice());
+    let units = units(alloc, statements)?;
+    match unbuilt {
+        None => Ok(units),
+        Some(line) => Err(Refusal::Parse(ParseRefusal::NotAStatement(line))),
+    }
+}
+
+/// The resolved program of a source.
+///
+/// # Errors
+///
+/// The first refusal: a source of more than 262,144 bytes; then those of its tokens, of its statements and of its units;
+/// then `NotAStatement` at the least line of a DOALL, SUBROUTINE or CALL, which are not built yet; then those of the check.
+/// `Memory` may come at any time.
+pub fn program(alloc: Global, source: &[u8]) -> Result<Program, Refusal>
+    ensures { IsProgramOf source.now (result_map_both program_of (λ refusal. refusal) result) }
+{
+    let units = units_of(alloc, source)?;
+    Ok(check(alloc, &units)?)
+}
