@@ -1,0 +1,7 @@
+mod InMemory
+mod Values
+mod Moves
+mod Comes
+mod Statements
+mod Answers
+mod Programs

@@ -1,0 +1,27 @@
+-- DO loops.
+use Rattle.std.specs.Prelude.{ℕ, ℤ, List, Result, Ok, Err}
+use Rattle.cdc_prog.specs.declared.expr.Ref.{Ref}
+use Rattle.cdc_prog.specs.Plain.{Control}
+use Rattle.cdc_prog.specs.Data.{Store, Binding}
+use Rattle.cdc_prog.specs.Input.{Input}
+use Rattle.cdc_prog.specs.Process.{Process, Fail}
+use Rattle.cdc_prog.specs.Expressions.{Surroundings}
+use Rattle.cdc_prog.specs.Statements.{Runs, raise, turns, counted}
+use Rattle.cdc_meaning.specs.declared.frame.Fault.{Fault}
+use Rattle.cdc_meaning.specs.declared.steps.Turns.{Turns}
+use Rattle.cdc_meaning.specs.Runs.{Same, around}
+
+-- what raises the variable
+abbrev pub raised_by : Binding → Turns → Runs
+raised_by b t = raise b t.line t.again t.bump t.by
+
+-- so many turns of a body, each followed by what raises the variable
+abbrev pub turns_left : (count : ℕ) → Binding → Turns → (body : Runs) → Runs
+turns_left count b t body = turns count body (raised_by b t)
+
+-- a loop leads to its turns, whatever its body is, or a fault of its controls ends the program
+abbrev pub Begins : Binding → Control → (first again bump : Ref) → (slots : List ℤ) → Store → Result Turns Fault → (after : List ℤ) → Store → Type 0
+Begins b k first again bump slots s (Ok x) after t =
+    (left : Input) (body : Runs) (rest : Surroundings → Process) → Same (counted b k first again bump body (around slots left) rest) s (turns_left x.count b x body (around after left) rest) t
+Begins b k first again bump slots s (Err f) after t =
+    (left : Input) (body : Runs) (rest : Surroundings → Process) → Same (counted b k first again bump body (around slots left) rest) s (Fail f.kind f.line) s

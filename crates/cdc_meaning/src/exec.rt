@@ -1,0 +1,128 @@
+// Statements.
+ghost use Rattle.std.specs.Prelude.{◌≡◌, ℕ, List, length};
+ghost use Rattle.cdc_prog.specs.Bodies.{HasOnly};
+ghost use Rattle.cdc_prog.specs.Resolved.{IsScalar, StmtFits};
+ghost use Rattle.cdc_prog.specs.Statements.{Runs, stmt};
+ghost use Rattle.cdc_meaning.specs.Loops.{turns_left};
+ghost use Rattle.cdc_prog.specs.Translation.{stmt_of, stmts_of, program_of};
+ghost use Rattle.cdc_meaning.specs.Frames.{shapes_of, binding, IsSound};
+ghost use Rattle.cdc_meaning.specs.Unread.{left_of};
+ghost use Rattle.cdc_meaning.specs.Carried.{state, Carried};
+
+use crate::expr::value;
+use crate::frame::Frame;
+use crate::print::{Stop, print};
+use crate::read::{Unread, read};
+use crate::steps::{Turns, assign, begin, raise};
+use cdc_base::Sink;
+use cdc_prog::Stmt;
+
+/// Carries out a statement of serial code that has no DOALL and no CALL.
+///
+/// # Errors
+///
+/// The first fault; a failure of the sink.
+#[cycle(exec)]
+pub fn exec<K: Sink>(
+    frame: &Frame,
+    words: &mut [i64],
+    slots: &mut [i64],
+    unread: &mut Unread,
+    out: &mut K,
+    statement: &Stmt,
+) -> Result<(), Stop>
+    requires sound { IsSound frame.now }
+    requires room { length words.old ≡ frame.now.program.now.words }
+    requires fits { StmtFits (program_of frame.now.program.now) (λ u. 0) 0 (shapes_of frame.now) (length slots.old) (stmt_of statement.now) }
+    requires serial { HasOnly (Unit {0}) ⊥ ⊥ (stmt_of statement.now) }
+    ensures { (calls : ℕ → List ℕ → Runs) → Carried frame.now.program.now.texts (stmt calls (binding frame.now) (stmt_of statement.now)) (state words.old slots.old (left_of unread.old) (K.taken out.old) (K.faults out.old)) result (state words.new slots.new (left_of unread.new) (K.taken out.new) (K.faults out.new)) }
+{
+    match statement {
+        Stmt::Assign {
+            line,
+            target,
+            value,
+        } => {
+            assign(frame, words, slots, *line, target, value)?;
+            Ok(())
+        }
+        Stmt::If { arms, other } => {
+            for arm in arms.as_slice() {
+                let holds = value(frame, words, slots, arm.line, &arm.cond)?;
+                if holds != 0 {
+                    return exec_all(frame, words, slots, unread, out, arm.body.as_slice());
+                }
+            }
+            exec_all(frame, words, slots, unread, out, other.as_slice())
+        }
+        Stmt::Do {
+            control,
+            first,
+            body,
+            again,
+            bump,
+        } => {
+            let turns = begin(frame, words, slots, control, *first, *again, *bump)?;
+            repeat(frame, words, slots, unread, out, body.as_slice(), turns)
+        }
+        Stmt::Print { line, items } => print(frame, words, slots, out, *line, items.as_slice()),
+        Stmt::Read { line, targets } => {
+            read(frame, words, slots, unread, *line, targets.as_slice())?;
+            Ok(())
+        }
+        // There is neither in such code.
+        Stmt::Doall { .. } | Stmt::Call { .. } => Ok(()),
+    }
+}
+
+/// Carries out statements in order.
+///
+/// # Errors
+///
+/// The first fault; a failure of the sink.
+#[cycle(exec)]
+pub fn exec_all<K: Sink>(
+    frame: &Frame,
+    words: &mut [i64],
+    slots: &mut [i64],
+    unread: &mut Unread,
+    out: &mut K,
+    statements: &[Stmt],
+) -> Result<(), Stop>
+    requires sound { IsSound frame.now }
+    requires room { length words.old ≡ frame.now.program.now.words }
+    requires fits { StmtFits (program_of frame.now.program.now) (λ u. 0) 0 (shapes_of frame.now) (length slots.old) (stmts_of statements.now) }
+    requires serial { HasOnly (Unit {0}) ⊥ ⊥ (stmts_of statements.now) }
+    ensures { (calls : ℕ → List ℕ → Runs) → Carried frame.now.program.now.texts (stmt calls (binding frame.now) (stmts_of statements.now)) (state words.old slots.old (left_of unread.old) (K.taken out.old) (K.faults out.old)) result (state words.new slots.new (left_of unread.new) (K.taken out.new) (K.faults out.new)) }
+{
+    for statement in statements {
+        exec(frame, words, slots, unread, out, statement)?;
+    }
+    Ok(())
+}
+
+// Carries out the turns of a DO loop.
+#[cycle(exec)]
+fn repeat<K: Sink>(
+    frame: &Frame,
+    words: &mut [i64],
+    slots: &mut [i64],
+    unread: &mut Unread,
+    out: &mut K,
+    body: &[Stmt],
+    turns: Turns,
+) -> Result<(), Stop>
+    requires sound { IsSound frame.now }
+    requires room { length words.old ≡ frame.now.program.now.words }
+    requires fits { StmtFits (program_of frame.now.program.now) (λ u. 0) 0 (shapes_of frame.now) (length slots.old) (stmts_of body.now) }
+    requires serial { HasOnly (Unit {0}) ⊥ ⊥ (stmts_of body.now) }
+    requires again { IsScalar frame.now.program.now.objects (shapes_of frame.now) (length slots.old) turns.again.var }
+    requires bump { IsScalar frame.now.program.now.objects (shapes_of frame.now) (length slots.old) turns.bump.var }
+    ensures { (calls : ℕ → List ℕ → Runs) → Carried frame.now.program.now.texts (turns_left turns.count (binding frame.now) turns (stmt calls (binding frame.now) (stmts_of body.now))) (state words.old slots.old (left_of unread.old) (K.taken out.old) (K.faults out.old)) result (state words.new slots.new (left_of unread.new) (K.taken out.new) (K.faults out.new)) }
+{
+    for _ in 0..turns.count {
+        exec_all(frame, words, slots, unread, out, body)?;
+        raise(frame, words, slots, turns)?;
+    }
+    Ok(())
+}

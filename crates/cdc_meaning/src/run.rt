@@ -1,0 +1,90 @@
+// Whole programs.
+ghost use Rattle.std.specs.Prelude.{◌≡◌, ◌<◌, pos, length, replicate};
+ghost use Rattle.cdc_prog.specs.Translation.{program_of, stmts_of};
+ghost use Rattle.cdc_prog.specs.Units.{body_of};
+ghost use Rattle.cdc_prog.specs.Resolved.{IsResolved};
+ghost use Rattle.cdc_prog.specs.Meaning.{meaning};
+ghost use Rattle.cdc_meaning.specs.Answers.{IsSerial, IsRun, HasPlainCause, answer_of};
+
+use crate::exec::exec_all;
+use crate::frame::Frame;
+use crate::print::Stop;
+use crate::read::Unread;
+use cdc_base::{List, Sink};
+use cdc_input::InputRecords;
+use cdc_prog::{FaultKind, Program, Stmt};
+use std::alloc::Global;
+
+/// How the run of a program ends.
+#[derive(Clone, Copy, Debug, PartialEq, Eq)]
+pub enum Plain {
+    Done,
+    /// A fault, and the line of its statement.
+    Fault(FaultKind, u32),
+    /// The sink failed.
+    SinkFault,
+    /// Memory ran out before anything was written.
+    Memory,
+}
+
+/// Carries out a program by the rules of the language, on one store, and writes its output as it
+/// comes. The program has no DOALL and no CALL. All memory is taken before the first byte is written.
+pub fn run_plain<K: Sink>(
+    alloc: Global,
+    program: &Program,
+    records: &InputRecords,
+    out: &mut K,
+) -> Plain
+    requires resolved { IsResolved (program_of program.now) }
+    requires serial { IsSerial (program_of program.now) }
+    ensures run { IsRun (meaning (program_of program.now) records.now.records) (K.taken out.old) (K.taken out.new) result }
+    ensures cause { HasPlainCause (K.faults out.old) (K.faults out.new) result }
+{
+    match vec![in alloc; 0; program.words as usize] {
+        Ok(mut words) => run_on(program, records.records.as_slice(), &mut words, out),
+        Err(_) => Plain::Memory,
+    }
+}
+
+// Carries out the main unit of a program on words of 0.
+fn run_on<K: Sink>(
+    program: &Program,
+    records: &[List<i64>],
+    words: &mut [i64],
+    out: &mut K,
+) -> Plain
+    requires resolved { IsResolved (program_of program.now) }
+    requires serial { IsSerial (program_of program.now) }
+    requires zeros { words.old ≡ replicate program.now.words (pos 0) }
+    ensures run { IsRun (meaning (program_of program.now) records.now) (K.taken out.old) (K.taken out.new) result }
+    ensures cause { HasPlainCause (K.faults out.old) (K.faults out.new) result }
+{
+    let frame = Frame {
+        program,
+        dummies: &[],
+        bound: &[],
+    };
+    let mut unread = Unread::new(records);
+    answer(exec_all(&frame, words, &mut [], &mut unread, out, main_body(program)))
+}
+
+// The statements of the main unit.
+fn main_body(program: &Program) -> &[Stmt]
+    requires { program.now.main < length program.now.units }
+    ensures { stmts_of result.now ≡ body_of (program_of program.now) program.now.main }
+{
+    program.units.as_slice()[program.main as usize]
+        .body
+        .as_slice()
+}
+
+// The answer to an end.
+fn answer(end: Result<(), Stop>) -> Plain
+    ensures { result ≡ answer_of end }
+{
+    match end {
+        Ok(()) => Plain::Done,
+        Err(Stop::Faulted(fault)) => Plain::Fault(fault.kind, fault.line),
+        Err(Stop::Sink) => Plain::SinkFault,
+    }
+}

@@ -1,0 +1,106 @@
+// What statements do that print nothing and hold no statements.
+ghost use Rattle.std.specs.Prelude.{◌≡◌, length, IfOk};
+ghost use Rattle.cdc_prog.specs.Input.{Input};
+ghost use Rattle.cdc_prog.specs.Resolved.{ExprFits, TargetFits, ControlFits, IsScalar};
+ghost use Rattle.cdc_prog.specs.Statements.{assign};
+ghost use Rattle.cdc_prog.specs.Translation.{expr_of, target_of, control_of};
+ghost use Rattle.cdc_meaning.specs.Frames.{shapes_of, binding, IsSound};
+ghost use Rattle.cdc_meaning.specs.Runs.{store_of, around, Steps};
+ghost use Rattle.cdc_meaning.specs.Loops.{Begins, raised_by};
+
+use crate::cell::{fetch, keep, scalar};
+use crate::expr::{at_line, located, value};
+use crate::frame::{Fault, Frame};
+use crate::operators::{binary, turns};
+use cdc_prog::{BinOp, Control, Expr, Ref, Target};
+
+/// An assignment: the target's subscripts, the test of the bounds, the value, and the store (ISO/IEC
+/// 1539:1991, section 7.5.1).
+///
+/// # Errors
+///
+/// The first fault, at the line.
+pub fn assign(
+    frame: &Frame,
+    words: &mut [i64],
+    slots: &mut [i64],
+    line: u32,
+    target: &Target,
+    e: &Expr,
+) -> Result<(), Fault>
+    requires sound { IsSound frame.now }
+    requires room { length words.old ≡ frame.now.program.now.words }
+    requires target { TargetFits frame.now.program.now.objects (shapes_of frame.now) (length slots.old) (target_of target.now) }
+    requires value { ExprFits frame.now.program.now.objects (shapes_of frame.now) (length slots.old) (expr_of e.now) }
+    ensures { (left : Input) → Steps (assign (binding frame.now) line (target_of target.now) (expr_of e.now)) (around slots.old left) (store_of words.old) result (around slots.new left) (store_of words.new) }
+{
+    let cell = located(frame, words, slots, line, target)?;
+    let v = value(frame, words, slots, line, e)?;
+    keep(words, slots, cell, v);
+    Ok(())
+}
+
+/// The turns of a DO loop, and what raises its variable after each.
+#[derive(Clone, Copy)]
+pub struct Turns {
+    pub line: u32,
+    pub again: Ref,
+    pub bump: Ref,
+    pub by: i64,
+    pub count: u128,
+}
+
+/// A DO loop begins (ISO/IEC 1539:1991, section 8.1.4.4.1): its controls are evaluated in order, and
+/// the first value is stored in its variable.
+///
+/// # Errors
+///
+/// The first fault, at the line of the loop; a step of 0 is one.
+pub fn begin(
+    frame: &Frame,
+    words: &mut [i64],
+    slots: &mut [i64],
+    control: &Control,
+    first: Ref,
+    again: Ref,
+    bump: Ref,
+) -> Result<Turns, Fault>
+    requires sound { IsSound frame.now }
+    requires room { length words.old ≡ frame.now.program.now.words }
+    requires fits { ControlFits frame.now.program.now.objects (shapes_of frame.now) (length slots.old) (control_of control.now) }
+    requires first { IsScalar frame.now.program.now.objects (shapes_of frame.now) (length slots.old) first.var }
+    ensures begins { Begins (binding frame.now) (control_of control.now) first again bump slots.old (store_of words.old) result slots.new (store_of words.new) }
+    ensures same { IfOk result (λ t. (t.again ≡ again) × (t.bump ≡ bump)) }
+{
+    let line = control.line;
+    let from = value(frame, words, slots, line, &control.from)?;
+    let to = value(frame, words, slots, line, &control.to)?;
+    let by = value(frame, words, slots, line, &control.by)?;
+    let count = at_line(turns(from, to, by), line)?;
+    keep(words, slots, scalar(frame, slots, first.var), from);
+    Ok(Turns {
+        line,
+        again,
+        bump,
+        by,
+        count,
+    })
+}
+
+/// The variable of a DO loop is raised by its step.
+///
+/// # Errors
+///
+/// `Overflow` at the line of the loop, where the result is out of range.
+pub fn raise(frame: &Frame, words: &mut [i64], slots: &mut [i64], turns: Turns) -> Result<(), Fault>
+    requires sound { IsSound frame.now }
+    requires room { length words.old ≡ frame.now.program.now.words }
+    requires again { IsScalar frame.now.program.now.objects (shapes_of frame.now) (length slots.old) turns.again.var }
+    requires bump { IsScalar frame.now.program.now.objects (shapes_of frame.now) (length slots.old) turns.bump.var }
+    ensures { (left : Input) → Steps (raised_by (binding frame.now) turns) (around slots.old left) (store_of words.old) result (around slots.new left) (store_of words.new) }
+{
+    let x = fetch(words, slots, scalar(frame, slots, turns.again.var));
+    let y = at_line(binary(BinOp::Add, x, turns.by), turns.line)?;
+    keep(words, slots, scalar(frame, slots, turns.bump.var), y);
+    Ok(())
+}
