@@ -9,7 +9,7 @@ use Rattle.cdc_top.specs.Answer.{Answer, Said, ran}
 use Rattle.cdc_top.specs.Code.{names, code_in, code_of}
 use Rattle.cdc_top.specs.Machine.{Machine, State, play, run, start, opening}
 use Rattle.cdc_top.specs.Named.{texts}
-use Rattle.cdc_top.specs.Pieces.{GrewByFront}
+use Rattle.cdc_text.specs.Pieces.{GrewByFront}
 use Rattle.cdc_top.specs.Replay.{Runs, fresh}
 use Rattle.cdc_top.specs.Report.{ends_line, line_end, printed, outcome_of, status_of}
 use Rattle.cdc_top.specs.Source.{Source}

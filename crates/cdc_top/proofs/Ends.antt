@@ -5,7 +5,11 @@ use Rattle.std.proofs.lemmas.Bool.Decides.{nat_tests}
 use Rattle.std.proofs.lemmas.List.{length-replicate}
 use Rattle.cdc_base.specs.Outside.{IsWhole, IsLong}
 use Rattle.cdc_base.specs.Causes.{Rose}
-use Rattle.cdc_top.specs.Answer.{Answer, answer, usage_text, Command, Usage, ToolEnded, Files, Said, Ended, IsTold, IsAccepted, IsHeader, ScheduleAnswers, InputAnswers, RunAnswers, InputFailed, source_refused, input_refused, schedule_refused, ran, schedule_limit}
+use Rattle.cdc_top.specs.Answer.{Answer, answer, usage_text, Command, Usage, ToolEnded, Files, Said, Ended, IsTold, IsAccepted, IsHeader, ScheduleAnswers, InputAnswers, RunAnswers, InputFailed, CheckAnswers, CheckSaid, source_refused, input_refused, schedule_refused, ran, source_limit, schedule_limit}
+use Rattle.cdc_check.specs.declared.refusal.CheckRefusal.TheVariants.{TooMany}
+use Rattle.cdc_compile.specs.declared.refusal.Refusal.TheVariants.{Check}
+use Rattle.cdc_compile.specs.Texts.{refusal_text}
+use Rattle.cdc_prog.specs.declared.program.Kind.TheVariants as k
 use Rattle.cdc_top.specs.Source.{Source}
 
 -- more bytes than a limit
@@ -42,22 +46,27 @@ pub whole_told : (limit : ℕ) (o : Option (List ℕ)) (bytes : List ℕ) → Is
 whole_told limit None bytes whole = tt
 whole_told limit (Some told) bytes whole = whole.0
 
-module _ {A : Files → Type 0} {X : Files → Answer → Type 0} {F : Files → Type 0} (files : Files) (told : A files) (old : Option (List ℕ)) (before now : List ℕ → ℕ) (sink : ℕ) where
+-- nothing was written for want of memory
+pub ended_nothing : {A : Files → Type 0} {X O : Files → Answer → Type 0} {F : Files → Type 0} (files : Files) (status : ℕ) (old new : Option (List ℕ)) (before now : List ℕ → ℕ) (sink_before sink_now : ℕ)
+    → A files → (status ≡ 7) × (new ≡ old) × (sink_now ≡ sink_before) → Ended A X O F status old new before now sink_before sink_now
+ended_nothing files status old new before now sink_before sink_now told memory = record {
+  files = files;
+  told = told;
+  whole = λ finished. absurd (finished.2 memory.0);
+  part = λ six. absurd (cc (six, memory.0));
+  nothing = λ _. memory.1;
+  read_fault = λ five. absurd (cc (five, memory.0));
+  write_fault = λ six. absurd (cc (six, memory.0));
+  quiet = λ finished. absurd (finished.2 memory.0);
+}
+
+module _ {A : Files → Type 0} {X O : Files → Answer → Type 0} {F : Files → Type 0} (files : Files) (told : A files) (old : Option (List ℕ)) (before now : List ℕ → ℕ) (sink : ℕ) where
   -- want of memory
-  pub ended_memory : Ended A X F 7 old old before now sink sink
-  ended_memory = record {
-    files = files;
-    told = told;
-    whole = λ finished. absurd (finished.2 refl);
-    part = λ six. absurd (cc six);
-    nothing = λ _. refl;
-    read_fault = λ five. absurd (cc five);
-    write_fault = λ six. absurd (cc six);
-    quiet = λ finished. absurd (finished.2 refl);
-  }
+  pub ended_memory : Ended A X O F 7 old old before now sink sink
+  ended_memory = ended_nothing files 7 old old before now sink sink told (refl, refl, refl)
 
   -- a fault of a file
-  pub ended_read : F files → Ended A X F 5 old old before now sink sink
+  pub ended_read : F files → Ended A X O F 5 old old before now sink sink
   ended_read failed = record {
     files = files;
     told = told;
@@ -70,8 +79,8 @@ module _ {A : Files → Type 0} {X : Files → Answer → Type 0} {F : Files →
   }
 
 -- an answer was said
-pub ended_said : {A : Files → Type 0} {X : Files → Answer → Type 0} {F : Files → Type 0} (files : Files) (a : Answer) (status : ℕ) (old new : Option (List ℕ)) (before now : List ℕ → ℕ) (sink_before sink_now : ℕ)
-    → A files → X files a → ((b : Answer) → X files b → b ≡ a) → ((name : List ℕ) → now name ≡ before name) → Said a status old new sink_before sink_now → Ended A X F status old new before now sink_before sink_now
+pub ended_said : {A : Files → Type 0} {X O : Files → Answer → Type 0} {F : Files → Type 0} (files : Files) (a : Answer) (status : ℕ) (old new : Option (List ℕ)) (before now : List ℕ → ℕ) (sink_before sink_now : ℕ)
+    → A files → X files a → O files a → ((name : List ℕ) → now name ≡ before name) → Said a status old new sink_before sink_now → Ended A X O F status old new before now sink_before sink_now
 ended_said files a status old new before now sink_before sink_now told is only same said = record {
   files = files;
   told = told;
@@ -84,13 +93,13 @@ ended_said files a status old new before now sink_before sink_now told is only s
 }
 
 -- one more file was read before
-pub ended_behind : {A B : Files → Type 0} {X Y : Files → Answer → Type 0} {F G : Files → Type 0} (wide : Files → Files) (status : ℕ) (old new : Option (List ℕ)) (before mid now : List ℕ → ℕ) (sink_before sink_now : ℕ)
-    → ((f : Files) → A f → B (wide f)) → ((f : Files) (a : Answer) → X f a → Y (wide f) a) → ((f : Files) (a : Answer) → Y (wide f) a → X f a) → ((f : Files) → F f → G (wide f)) → ((name : List ℕ) → mid name ≡ before name)
-    → Ended A X F status old new mid now sink_before sink_now → Ended B Y G status old new before now sink_before sink_now
-ended_behind wide status old new before mid now sink_before sink_now told to from failed same ended = record {
+pub ended_behind : {A B : Files → Type 0} {X O Y P : Files → Answer → Type 0} {F G : Files → Type 0} (wide : Files → Files) (status : ℕ) (old new : Option (List ℕ)) (before mid now : List ℕ → ℕ) (sink_before sink_now : ℕ)
+    → ((f : Files) → A f → B (wide f)) → ((f : Files) (a : Answer) → X f a → Y (wide f) a) → ((f : Files) (a : Answer) → O f a → P (wide f) a) → ((f : Files) → F f → G (wide f)) → ((name : List ℕ) → mid name ≡ before name)
+    → Ended A X O F status old new mid now sink_before sink_now → Ended B Y P G status old new before now sink_before sink_now
+ended_behind wide status old new before mid now sink_before sink_now told to only failed same ended = record {
   files = wide ended.files;
   told = told ended.files ended.told;
-  whole = λ finished. let w = ended.whole finished in (w.0, to ended.files w.0 w.1, λ b is. w.2 b (from ended.files b is), w.3, w.4);
+  whole = λ finished. let w = ended.whole finished in (w.0, to ended.files w.0 w.1, only ended.files w.0 w.2, w.3, w.4);
   part = λ six. let p = ended.part six in (p.0, to ended.files p.0 p.1, p.2);
   nothing = ended.nothing;
   read_fault = λ five. failed ended.files (ended.read_fault five);
@@ -155,3 +164,16 @@ pub usage_ended : (command : Command) (told : List ℕ → Option (List ℕ)) (f
 usage_ended command told faults status old new sink_before sink_now is said =
     subst (λ (c : Command). ToolEnded c told status old new faults faults sink_before sink_now) (sym is)
     (ended_said (with_schedule []) (answer usage_text 2) status old new faults faults sink_before sink_now tt refl (λ b same. same) (λ name. refl) said)
+
+-- a program of too many bytes is refused
+pub source_too_long : (bytes : List ℕ) → source_limit < length bytes → CheckAnswers bytes (answer (refusal_text (Check (TooMany k.Source))) 3)
+source_too_long bytes long = inl (Check (TooMany k.Source), (λ e. absurd (cc e)), long, refl)
+
+-- a program was checked
+pub ended_checked : {A : Files → Type 0} {O : Files → Answer → Type 0} {F : Files → Type 0} (files : Files) (status : ℕ) (old new : Option (List ℕ)) (before now : List ℕ → ℕ) (sink_before sink_now : ℕ)
+    → A files → ((a : Answer) → O files a) → ((name : List ℕ) → now name ≡ before name) → CheckSaid files.program status old new sink_before sink_now
+    → Ended A (λ f. CheckAnswers f.program) O F status old new before now sink_before sink_now
+ended_checked files status old new before now sink_before sink_now told only same said = elim said [
+  | inl memory ↦ ended_nothing files status old new before now sink_before sink_now told memory
+  | inr answered ↦ ended_said files answered.0 status old new before now sink_before sink_now told answered.1 (only answered.0) same answered.2
+]

@@ -3,7 +3,6 @@ pub mod Words
 pub mod Names
 pub mod Runs
 pub mod Texts
-pub mod Pieces
 pub mod Replays
 pub mod Answered
 pub mod Laws

@@ -9,12 +9,12 @@ use Rattle.cdc_code.specs.declared.instr.Step.{Step}
 use Rattle.cdc_num.specs.Decimal.{decimal_bytes, IsDecimalOf}
 use Rattle.cdc_top.specs.declared.machine.Outcome.{Outcome}
 use Rattle.cdc_top.specs.Machine.{Machine, State, Turn, turn, next, play}
-use Rattle.cdc_top.specs.Pieces.{GrewByFront}
+use Rattle.cdc_text.specs.Pieces.{GrewByFront}
 use Rattle.cdc_top.specs.Ready.{IsReady}
 use Rattle.cdc_top.specs.Replay.{Replaying, Runs, fresh}
 use Rattle.cdc_top.specs.Report.{ends_line}
 use Rattle.cdc_base.proofs.Grown.{grown-grown}
-use Rattle.cdc_top.proofs.Pieces.{grown_nothing, front_first, front_second}
+use Rattle.cdc_text.proofs.Pieces.{grown_nothing, front_first, front_second}
 use Rattle.cdc_top.proofs.Runs.{grows, holds_on, stays}
 
 pub begins : (code : List Step) (machine : Machine) (bound : ℕ) (old : Option (List ℕ)) → Runs code (fresh machine) → Replaying code machine machine 0 bound old old false

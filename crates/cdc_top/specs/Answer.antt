@@ -1,10 +1,16 @@
 -- What the tool answers to the words of a command line: bytes and a status.
-use Rattle.std.specs.Prelude.{◌≡◌, ◌≢◌, ℕ, ◌≤◌, List, [], ◌∷◌, length, Option, Some, None, if◌then◌else◌, ◌==◌, ◌&&◌, Bool, false, not, codes, ◌⊎◌}
+use Rattle.std.specs.Prelude.{◌≡◌, ◌≢◌, ℕ, ◌≤◌, List, [], ◌∷◌, length, Option, Some, None, Ok, Err, if◌then◌else◌, ◌==◌, ◌&&◌, Bool, false, not, codes, ◌⊎◌}
 use Rattle.std.specs.Str.{bytes_eq}
 use Rattle.cdc_base.specs.Causes.{Rose}
 use Rattle.cdc_base.specs.Outside.{grown}
 use Rattle.cdc_top.specs.Machine.{run}
-use Rattle.cdc_top.specs.Pieces.{GrewByFront}
+use Rattle.cdc_compile.specs.declared.refusal.Refusal.{Refusal}
+use Rattle.cdc_compile.specs.declared.refusal.Refusal.TheVariants.{Memory}
+use Rattle.cdc_compile.specs.Source.{IsProgramOf}
+use Rattle.cdc_compile.specs.Texts.{accepted_text, refusal_text}
+use Rattle.cdc_prog.specs.declared.program.Program.{Program}
+use Rattle.cdc_prog.specs.Translation.{program_of}
+use Rattle.cdc_text.specs.Pieces.{GrewByFront}
 use Rattle.cdc_top.specs.Report.{joined, printed, outcome_of, status_of}
 use Rattle.cdc_top.specs.Schedule.{IsSchedule}
 use Rattle.cdc_top.specs.Source.{Source, IsSource, line}
@@ -20,6 +26,7 @@ answer bytes status = record { bytes = bytes; status = status }
 -- a command by its words
 pub data Command : Type 0 where
   Run : (program input schedule : List ℕ) → Command
+  Check : (program : List ℕ) → Command
   Usage : Command
 
 -- a word that is empty or begins with `-` is no name of a file
@@ -31,10 +38,13 @@ abbrev pub run_of : List ℕ → List ℕ → List ℕ → List ℕ → Command
 run_of verb program input schedule =
     if bytes_eq verb (codes "run") && (is_name program && (is_name input && is_name schedule)) then Run program input schedule else Usage
 
+abbrev pub check_of : List ℕ → List ℕ → Command
+check_of verb program = if bytes_eq verb (codes "check") && is_name program then Check program else Usage
+
 abbrev pub command_of : List (List ℕ) → Command
 command_of [] = Usage
 command_of (verb ∷ []) = Usage
-command_of (verb ∷ program ∷ []) = Usage
+command_of (verb ∷ program ∷ []) = check_of verb program
 command_of (verb ∷ program ∷ input ∷ []) = Usage
 command_of (verb ∷ program ∷ input ∷ schedule ∷ []) = run_of verb program input schedule
 command_of (verb ∷ program ∷ input ∷ schedule ∷ more ∷ words) = Usage
@@ -94,9 +104,16 @@ abbrev pub RunAnswers : Files → Answer → Type 0
 RunAnswers files a =
     (((source : Source) → IsAccepted files.program source → ⊥) × (a ≡ source_refused)) ⊎ ((source : Source) × IsAccepted files.program source × InputAnswers source files a)
 
+-- the first refusal of the program is answered, or that it is accepted, with its numbers; want of memory is no refusal
+abbrev pub CheckAnswers : List ℕ → Answer → Type 0
+CheckAnswers source a =
+    ((refusal : Refusal) × (refusal ≢ Memory) × IsProgramOf source (Err refusal) × (a ≡ answer (refusal_text refusal) 3))
+    ⊎ ((program : Program) × IsProgramOf source (Ok (program_of program)) × (a ≡ answer (accepted_text program) 0))
+
 -- the answer to a command over the bytes of its files
 abbrev pub Answers : Command → Files → Answer → Type 0
 Answers (Run program input schedule) files a = RunAnswers files a
+Answers (Check program) files a = CheckAnswers files.program a
 Answers Usage files a = a ≡ answer usage_text 2
 
 -- the bytes of a file, where they are told, are these
@@ -107,6 +124,7 @@ IsTold (Some told) bytes = bytes ≡ told
 -- the files of a command have the bytes that the store tells, where it tells them
 abbrev pub AreTold : Command → (List ℕ → Option (List ℕ)) → Files → Type 0
 AreTold (Run program input schedule) told files = IsTold (told program) files.program × IsTold (told input) files.input × IsTold (told schedule) files.schedule
+AreTold (Check program) told files = IsTold (told program) files.program
 AreTold Usage told files = Unit {0}
 
 -- a file's count rose, and nothing before its reading is refused
@@ -116,14 +134,25 @@ InputFailed input schedule files before now = Rose (before input) (now input) �
 abbrev pub ReadFailed : Command → Files → (List ℕ → ℕ) → (List ℕ → ℕ) → Type 0
 ReadFailed (Run program input schedule) files before now =
     Rose (before program) (now program) ⊎ ((source : Source) × IsAccepted files.program source × InputFailed input schedule files before now)
+ReadFailed (Check program) files before now = Rose (before program) (now program)
 ReadFailed Usage files before now = ⊥
 
--- How a call ended, by what files it may have read, what their answers are and when a reading of them fails.
-pub record Ended (are_told : Files → Type 0) (answers : Files → Answer → Type 0) (failed : Files → Type 0) (status : ℕ) (old new : Option (List ℕ)) (before now : List ℕ → ℕ) (sink_before sink_now : ℕ) : Type 0 where
+-- there is no other answer
+abbrev pub Only : (Files → Answer → Type 0) → Files → Answer → Type 0
+Only answers files a = (b : Answer) → answers files b → b ≡ a
+
+-- the answer of `run` and of other words is the only one; of `check` that is not stated
+abbrev pub HasOne : Command → Files → Answer → Type 0
+HasOne (Run program input schedule) files a = Only RunAnswers files a
+HasOne (Check program) files a = Unit {0}
+HasOne Usage files a = Only (Answers Usage) files a
+
+-- How a call ended, by what files it may have read, what their answers are, which is the only one and when a reading of them fails.
+pub record Ended (are_told : Files → Type 0) (answers only : Files → Answer → Type 0) (failed : Files → Type 0) (status : ℕ) (old new : Option (List ℕ)) (before now : List ℕ → ℕ) (sink_before sink_now : ℕ) : Type 0 where
   pub files : Files
   pub told : are_told files
-  -- the status is the answer's, and the sink grew by the answer's bytes; there is no other answer
-  pub whole : IsFinished status → (a : Answer) × answers files a × ((b : Answer) → answers files b → b ≡ a) × (status ≡ a.status) × (new ≡ grown old a.bytes)
+  -- the status is the answer's, and the sink grew by the answer's bytes
+  pub whole : IsFinished status → (a : Answer) × answers files a × only files a × (status ≡ a.status) × (new ≡ grown old a.bytes)
   -- a fault of the sink leaves a front of the answer's bytes
   pub part : status ≡ 6 → (a : Answer) × answers files a × GrewByFront old new a.bytes
   -- a fault of a file and want of memory leave nothing
@@ -136,7 +165,7 @@ pub record Ended (are_told : Files → Type 0) (answers : Files → Answer → T
 -- how a call of the tool ended
 abbrev pub ToolEnded : Command → (List ℕ → Option (List ℕ)) → ℕ → Option (List ℕ) → Option (List ℕ) → (List ℕ → ℕ) → (List ℕ → ℕ) → ℕ → ℕ → Type 0
 ToolEnded command told status old new before now sink_before sink_now =
-    Ended (AreTold command told) (Answers command) (λ files. ReadFailed command files before now) status old new before now sink_before sink_now
+    Ended (AreTold command told) (Answers command) (HasOne command) (λ files. ReadFailed command files before now) status old new before now sink_before sink_now
 
 -- an answer was written whole, or a front of it where the sink failed, or nothing for want of memory
 pub record Said (a : Answer) (status : ℕ) (old new : Option (List ℕ)) (before now : ℕ) : Type 0 where
@@ -145,11 +174,16 @@ pub record Said (a : Answer) (status : ℕ) (old new : Option (List ℕ)) (befor
   pub memory : status ≡ 7 → new ≡ old
   pub reads : status ≢ 5
 
+-- the program was answered, or memory ran out and nothing was written
+abbrev pub CheckSaid : List ℕ → ℕ → Option (List ℕ) → Option (List ℕ) → ℕ → ℕ → Type 0
+CheckSaid source status old new before now =
+    ((status ≡ 7) × (new ≡ old) × (now ≡ before)) ⊎ ((a : Answer) × CheckAnswers source a × Said a status old new before now)
+
 -- The answer to the words was taken whole with its status, or a front of it after a fault of the sink, or nothing.
 pub record IsAnswered (command : Command) (told : List ℕ → Option (List ℕ)) (status : ℕ) (old new : Option (List ℕ)) : Type 0 where
   pub files : Files
   pub are_told : AreTold command told files
-  pub whole : IsFinished status → (a : Answer) × Answers command files a × ((b : Answer) → Answers command files b → b ≡ a) × (status ≡ a.status) × (new ≡ grown old a.bytes)
+  pub whole : IsFinished status → (a : Answer) × Answers command files a × HasOne command files a × (status ≡ a.status) × (new ≡ grown old a.bytes)
   pub part : status ≡ 6 → (a : Answer) × Answers command files a × GrewByFront old new a.bytes
   pub nothing : (status ≡ 5) ⊎ (status ≡ 7) → new ≡ old
 

@@ -1,10 +1,10 @@
 pub mod Answer
+pub mod Chosen
 pub mod Code
 pub mod Laws
 pub mod Machine
 pub mod Meaning
 pub mod Named
-pub mod Pieces
 pub mod Ready
 pub mod Replay
 pub mod Report

@@ -1,6 +1,7 @@
 //! The top call: it reads the words of a command line and writes what `cdcc` prints.
 #![tactic(auto)]
 
+mod check;
 mod machine;
 mod replay;
 mod report;
@@ -9,7 +10,6 @@ mod schedule;
 mod source;
 #[cfg(test)]
 mod tests;
-mod text;
 mod tool;
 mod translate;
 

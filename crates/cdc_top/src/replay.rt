@@ -2,15 +2,15 @@
 ghost use Rattle.std.specs.Prelude.{◌≡◌, [], ◌∷◌, ◌++◌, ℕ, List, true, false, not, IfOk};
 ghost use Rattle.cdc_num.specs.Decimal.{decimal_bytes};
 ghost use Rattle.cdc_top.specs.Machine.{play, piece_bytes};
-ghost use Rattle.cdc_top.specs.Pieces.{Wrote};
+ghost use Rattle.cdc_text.specs.Pieces.{Wrote};
 ghost use Rattle.cdc_top.specs.Replay.{Runs, fresh};
 ghost use Rattle.cdc_top.specs.Report.{ends_line};
 
 use crate::machine::{Machine, Piece};
-use crate::text::write_words;
 use cdc_base::{Sink, SinkFault};
 use cdc_code::Step;
 use cdc_num::decimal;
+use cdc_text::write_words;
 
 // Writes a number in decimal, which leaves a line open.
 fn write_number<K: Sink>(out: &mut K, value: i64) -> Result<(), SinkFault>

@@ -1,13 +1,13 @@
 // The lines that `run` prints behind the program's output.
 ghost use Rattle.std.specs.Prelude.{◌≡◌, [], ◌∷◌, ◌++◌, if◌then◌else◌};
-ghost use Rattle.cdc_top.specs.Pieces.{Wrote};
+ghost use Rattle.cdc_text.specs.Pieces.{Wrote};
 ghost use Rattle.cdc_top.specs.Status.{IsFinished};
 ghost use Rattle.cdc_top.specs.Report.{kind_text, end_line, event_lines, count_line, report, status_of, outcome_of};
 
 use crate::machine::{Counts, Machine, Outcome};
-use crate::text::{Text, write_texts, write_words};
 use cdc_base::{Sink, SinkFault};
 use cdc_code::FaultKind;
+use cdc_text::{Text, write_texts, write_words};
 
 fn kind_words(kind: FaultKind) -> &'static [u8]
     ensures { result.now ≡ kind_text kind }

@@ -2,7 +2,7 @@
 ghost use Rattle.std.specs.Prelude.{◌≡◌, ℕ, List, OnOk};
 ghost use Rattle.cdc_top.specs.Answer.{Answer, answer, ran, Said};
 ghost use Rattle.cdc_top.specs.Machine.{play};
-ghost use Rattle.cdc_top.specs.Pieces.{Wrote};
+ghost use Rattle.cdc_text.specs.Pieces.{Wrote};
 ghost use Rattle.cdc_top.specs.Replay.{Runs, fresh};
 ghost use Rattle.cdc_top.specs.Report.{printed};
 ghost use Rattle.cdc_top.specs.Status.{IsFinished};
@@ -12,10 +12,10 @@ use crate::machine::Machine;
 use crate::replay::replay;
 use crate::report::{outcome, status, write_report};
 use crate::source::Source;
-use crate::text::write_words;
 use crate::translate::{code, objects};
 use cdc_base::{Sink, SinkFault};
 use cdc_code::Step;
+use cdc_text::write_words;
 use std::alloc::Global;
 
 /// The status after a fault of the sink.

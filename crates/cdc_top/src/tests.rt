@@ -3,6 +3,7 @@
 use crate::run_tool;
 use cdc_base::{CountSink, MemSink, MemStore, PlainStore};
 use std::alloc::Global;
+use std::fmt::Write;
 use std::test::Fail;
 
 const ONE: &str = "PROGRAM ONE\nN = 2 + 3\nPRINT *, N + 1\nEND\n";
@@ -47,6 +48,10 @@ const INPUT_REFUSED: &str = "refused input at 1:1\n";
 const SCHEDULE_REFUSED: &str = "refused header line 1\n";
 
 const RUN: &str = "run,one.f,one.in,one.s";
+
+const CHECK: &str = "check,one.f";
+
+const ACCEPTED: &str = "accepted units 1 objects 1 words 1 sites 2 doalls 0\n";
 
 // The words of a line, with a comma between two.
 fn split_words(alloc: Global, line: &str) -> Result<Vec<String>, Fail> {
@@ -106,6 +111,240 @@ fn files_are_answered(rt: HostRuntime) -> Result<(), Fail> {
     Ok(())
 }
 
+fn one_file(alloc: Global, program: Vec<u8>) -> Result<Vec<(String, Vec<u8>)>, Fail> {
+    let mut list = Vec::new(alloc);
+    list.push((String::from_str(alloc, "one.f")?, program))?;
+    Ok(list)
+}
+
+// A program of these lines between PROGRAM and END.
+fn program_of(alloc: Global, between: &str) -> Result<Vec<u8>, Fail> {
+    let source = format!(in alloc; "PROGRAM P\n{between}\nEND\n")?;
+    Ok(source.into_bytes())
+}
+
+// Each refusal once; then two at once, of which the first kind is told; then further places of a kind, and accepted lines.
+#[test]
+fn programs_are_checked(rt: HostRuntime) -> Result<(), Fail> {
+    let words = split_words(rt.alloc(), CHECK)?;
+    for (between, status, text) in [
+        ("N = 1 # 2", 3, "refused BadByte at 2:7\n"),
+        ("PRINT *, 'ab", 3, "refused OpenText at 2:10\n"),
+        (
+            "NNNNNNNNNNNNNNNNNNNNNNNNNNNNNNNN = 1",
+            3,
+            "refused NameLong at 2:1\n",
+        ),
+        ("N = 9223372036854775808", 3, "refused NumberWide at 2:5\n"),
+        (
+            "!cccccccccccccccccccccccccccccccccccccccccccccccccccccccccccccccccccccccccccccccccccccccccccccccccccccccccccccccccccccccccccccccccccc",
+            3,
+            "refused LineLong at 2:133\n",
+        ),
+        ("N == 1", 3, "refused NotAStatement at line 2\n"),
+        (
+            "N = (((((((((((((((((((((((((((((((((((((((((((((((((((((((((((((((((1)))))))))))))))))))))))))))))))))))))))))))))))))))))))))))))))))",
+            3,
+            "refused LineLong at 2:133\n",
+        ),
+        (
+            "N = (((((((((((((((((((((((((((((((((((((((((((((((((((((((((((((((((1 &\n)))))))))))))))))))))))))))))))))))))))))))))))))))))))))))))))))",
+            3,
+            "refused Depth at line 2\n",
+        ),
+        ("END DO", 3, "refused Nesting at line 2\n"),
+        ("X = 1", 3, "refused Undeclared at 2:1\n"),
+        ("INTEGER A, A", 3, "refused Duplicate at 2:9 and 2:12\n"),
+        ("INTEGER A(N)", 3, "refused NotConstant at 2:11\n"),
+        ("INTEGER A(2)\nA = 1", 3, "refused Shape at 3:1\n"),
+        (
+            "DO K = 1, 2\nK = 3\nEND DO",
+            3,
+            "refused DoVariable at 3:1\n",
+        ),
+        (
+            "INTEGER A(2097152), B(2097153)",
+            3,
+            "refused TooMany words limit 4194304\n",
+        ),
+        (
+            "DOALL K = 1, 2\nEND DOALL",
+            3,
+            "refused NotAStatement at line 2\n",
+        ),
+        (
+            "N = 1\nIF (N == 1) CALL Q",
+            3,
+            "refused NotAStatement at line 3\n",
+        ),
+        ("INTEGER A, A\nX = 1", 3, "refused Undeclared at 3:1\n"),
+        (
+            "INTEGER A(N), B, B",
+            3,
+            "refused Duplicate at 2:15 and 2:18\n",
+        ),
+        (
+            "INTEGER A(2), B(N)\nA = 1",
+            3,
+            "refused NotConstant at 2:17\n",
+        ),
+        (
+            "INTEGER A(2)\nDO K = 1, 2\nK = 3\nEND DO\nA = 1",
+            3,
+            "refused Shape at 6:1\n",
+        ),
+        (
+            "INTEGER A(4194305)\nDO K = 1, 2\nK = 3\nEND DO",
+            3,
+            "refused DoVariable at 4:1\n",
+        ),
+        (
+            "INTEGER A, B, A, B, A",
+            3,
+            "refused Duplicate at 2:9 and 2:15\n",
+        ),
+        (
+            "IMPLICIT NONE\nINTEGER A(K), B(X)",
+            3,
+            "refused Undeclared at 3:11\n",
+        ),
+        (
+            "INTEGER, PARAMETER :: P = 1, Q = P + R",
+            3,
+            "refused Undeclared at 2:38\n",
+        ),
+        (
+            "INTEGER, PARAMETER :: P = 1 / 0",
+            3,
+            "refused NotConstant at 2:27\n",
+        ),
+        (
+            "INTEGER, PARAMETER :: P = 9223372036854775807 + 1",
+            3,
+            "refused NotConstant at 2:27\n",
+        ),
+        (
+            "INTEGER A(P)\nINTEGER, PARAMETER :: P = 2",
+            3,
+            "refused NotConstant at 2:11\n",
+        ),
+        ("INTEGER A(1, 2, 3, 4)", 3, "refused Shape at 2:9\n"),
+        ("INTEGER A(2:1)", 3, "refused Shape at 2:9\n"),
+        ("INTEGER A(2, 3)\nA(1) = 1", 3, "refused Shape at 3:1\n"),
+        ("N(1) = 1", 3, "refused Shape at 2:1\n"),
+        (
+            "INTEGER, PARAMETER :: P = 2\nP = 1",
+            3,
+            "refused Shape at 3:1\n",
+        ),
+        (
+            "INTEGER A(3)\nDO A = 1, 2\nEND DO",
+            3,
+            "refused Shape at 3:4\n",
+        ),
+        (
+            "DO K = 1, 2\nDO J = 1, 2\nREAD *, L, K\nEND DO\nEND DO",
+            3,
+            "refused DoVariable at 4:12\n",
+        ),
+        (
+            "DO K = 1, 2\nDO K = 1, 2\nEND DO\nEND DO",
+            3,
+            "refused DoVariable at 3:4\n",
+        ),
+        (
+            "INTEGER A(2097152), B(2097152)",
+            0,
+            "accepted units 1 objects 2 words 4194304 sites 0 doalls 0\n",
+        ),
+        (
+            "INTEGER A(1:1)\nA(1) = A(1)",
+            0,
+            "accepted units 1 objects 1 words 1 sites 2 doalls 0\n",
+        ),
+        (
+            "DO K = 1, 2\nEND DO\nK = 1",
+            0,
+            "accepted units 1 objects 1 words 1 sites 4 doalls 0\n",
+        ),
+        (
+            "INTEGER, PARAMETER :: P = MOD(-7, 3), Q = -7 / 2, R = MIN(5, 4, 6)\nINTEGER A(P:Q + 3), B(R)",
+            0,
+            "accepted units 1 objects 2 words 6 sites 0 doalls 0\n",
+        ),
+    ] {
+        let program = program_of(rt.alloc(), between)?;
+        let mut store = PlainStore::new(one_file(rt.alloc(), program)?);
+        let mut sink = MemSink::new(rt.alloc(), 1000, Vec::new(rt.alloc()))?;
+        let got = run_tool(rt.alloc(), &words, &mut store, &mut sink);
+        assert_eq!(rt; got, status, "{text}");
+        assert_eq!(rt; sink.bytes(), text.as_bytes(), "{text}");
+    }
+    Ok(())
+}
+
+// A program of so many assignments, to one variable or to as many.
+fn assignments(alloc: Global, count: u32, to_one: bool) -> Result<Vec<u8>, Fail> {
+    let mut source = String::from_str(alloc, "PROGRAM P\n")?;
+    for k in 0..count {
+        if to_one {
+            source.push_str("N=1\n")?;
+        } else {
+            write!(source, "N{k}=1\n")?;
+        }
+    }
+    source.push_str("END\n")?;
+    Ok(source.into_bytes())
+}
+
+#[test]
+fn programs_have_limits(rt: HostRuntime) -> Result<(), Fail> {
+    let words = split_words(rt.alloc(), CHECK)?;
+    for (count, to_one, status, text) in [
+        (
+            16384,
+            true,
+            0,
+            "accepted units 1 objects 1 words 1 sites 16384 doalls 0\n",
+        ),
+        (16385, true, 3, "refused TooMany sites limit 16384\n"),
+        (
+            1024,
+            false,
+            0,
+            "accepted units 1 objects 1024 words 1024 sites 1024 doalls 0\n",
+        ),
+        (1025, false, 3, "refused TooMany objects limit 1024\n"),
+    ] {
+        let program = assignments(rt.alloc(), count, to_one)?;
+        let mut store = PlainStore::new(one_file(rt.alloc(), program)?);
+        let mut sink = MemSink::new(rt.alloc(), 1000, Vec::new(rt.alloc()))?;
+        let got = run_tool(rt.alloc(), &words, &mut store, &mut sink);
+        assert_eq!(rt; got, status, "{text}");
+        assert_eq!(rt; sink.bytes(), text.as_bytes(), "{text}");
+    }
+    Ok(())
+}
+
+#[test]
+fn a_program_has_its_limit(rt: HostRuntime) -> Result<(), Fail> {
+    let words = split_words(rt.alloc(), CHECK)?;
+    for (length, status, text) in [
+        (0, 3, "refused Nesting at line 1\n"),
+        (262144, 0, ACCEPTED),
+        (262145, 3, "refused TooMany source limit 262144\n"),
+    ] {
+        let mut program = ONE.as_bytes().to_vec(rt.alloc())?;
+        program.resize(length, b'\n')?;
+        let mut store = PlainStore::new(one_file(rt.alloc(), program)?);
+        let mut sink = MemSink::new(rt.alloc(), 1000, Vec::new(rt.alloc()))?;
+        let got = run_tool(rt.alloc(), &words, &mut store, &mut sink);
+        assert_eq!(rt; got, status, "{text}");
+        assert_eq!(rt; sink.bytes(), text.as_bytes(), "{text}");
+    }
+    Ok(())
+}
+
 #[test]
 fn other_words_are_told_the_usage(rt: HostRuntime) -> Result<(), Fail> {
     let mut lists = vec![in rt.alloc(); Vec::new(rt.alloc())]?;
@@ -114,6 +353,11 @@ fn other_words_are_told_the_usage(rt: HostRuntime) -> Result<(), Fail> {
         "run,-x,b,c",
         "run,a,,c",
         "runs,a,b,c",
+        "check",
+        "check,a,b",
+        "check,-x",
+        "checks,a",
+        "run,a",
         "bench,0",
         "bench,1001",
     ] {
@@ -130,22 +374,26 @@ fn other_words_are_told_the_usage(rt: HostRuntime) -> Result<(), Fail> {
 
 #[test]
 fn faults_end_the_call(rt: HostRuntime) -> Result<(), Fail> {
-    let words = split_words(rt.alloc(), RUN)?;
-    // The calls of the store and of the sink that fail, the room of the sink, and the status.
-    for (store_fails, sink_fails, room, status) in [
-        (2, 0, 1000, 5),
-        (0, 1, 1000, 6),
-        (0, 3, 1000, 6),
-        (0, 0, 20, 6),
+    // The words, the calls of the store and of the sink that fail, the room of the sink, the status and the whole answer.
+    for (line, store_fails, sink_fails, room, status, whole) in [
+        (RUN, 2, 0, 1000, 5, DONE),
+        (RUN, 0, 1, 1000, 6, DONE),
+        (RUN, 0, 3, 1000, 6, DONE),
+        (RUN, 0, 0, 20, 6, DONE),
+        (CHECK, 1, 0, 1000, 5, ACCEPTED),
+        (CHECK, 0, 1, 1000, 6, ACCEPTED),
+        (CHECK, 0, 2, 1000, 6, ACCEPTED),
     ] {
+        let words = split_words(rt.alloc(), line)?;
         let files = files_of(rt.alloc(), [ONE, "", HEADER])?;
         let mut store = MemStore::new(rt.alloc(), files, vec![in rt.alloc(); store_fails]?)?;
         let mut sink = MemSink::new(rt.alloc(), room, vec![in rt.alloc(); sink_fails]?)?;
         assert_eq!(rt; run_tool(rt.alloc(), &words, &mut store, &mut sink), status);
         let taken = sink.bytes();
-        assert!(rt; DONE.as_bytes().starts_with(taken) && taken.len() < DONE.len());
+        assert!(rt; whole.as_bytes().starts_with(taken) && taken.len() < whole.len());
         assert!(rt; status == 6 && sink_fails != 1 || taken.is_empty());
     }
+    let words = split_words(rt.alloc(), RUN)?;
     let mut store = MemStore::new(rt.alloc(), Vec::new(rt.alloc()), Vec::new(rt.alloc()))?;
     let mut sink = MemSink::new(rt.alloc(), 1000, Vec::new(rt.alloc()))?;
     assert_eq!(rt; run_tool(rt.alloc(), &words, &mut store, &mut sink), 5);

@@ -1,15 +1,20 @@
 // The top call: one command of a command line.
-ghost use Rattle.std.specs.Prelude.{◌≡◌, ℕ, List, map, string_bytes, MatchOption, IfSome, IsSomeAnd};
+ghost use Rattle.std.specs.Prelude.{◌≡◌, ℕ, List, map, string_bytes};
 ghost use Rattle.cdc_base.specs.Causes.{Rose};
-ghost use Rattle.cdc_top.specs.Answer.{Usage, Run, command_of, is_name, IsAccepted, IsHeader, ScheduleAnswers, InputAnswers, InputFailed, IsTold, Ended, ToolEnded, IsAnswered, IsCaused};
+ghost use Rattle.cdc_top.specs.Answer.{Usage, Run, Check, run_of, check_of, command_of, is_name, IsAccepted, IsHeader, ScheduleAnswers, InputAnswers, InputFailed, IsTold, Only, Ended, ToolEnded, IsAnswered, IsCaused};
+ghost use Rattle.cdc_top.specs.Chosen.{chosen};
 ghost use Rattle.cdc_top.specs.Laws.{MeansTheSource, HitsGiveMemory};
 ghost use Rattle.cdc_top.specs.Source.{Source as GivenSource};
 ghost use Rattle.cdc_top.specs.Words.{source_of};
 
+use crate::check::{check_source, say_refused};
 use crate::run::{OUT_OF_MEMORY, run_source, say};
 use crate::schedule::read_schedule;
 use crate::source::{Source, read_source};
 use cdc_base::{ReadRefusal, Sink, Store, read_all};
+use cdc_check::CheckRefusal;
+use cdc_compile::Refusal;
+use cdc_prog::Kind;
 use std::alloc::Global;
 
 /// The status after a fault of a file.
@@ -35,6 +40,15 @@ struct Names<'a> {
     schedule: &'a str,
 }
 
+/// A command by its words.
+#[derive(Clone, Copy)]
+enum Command<'a> {
+    Run(Names<'a>),
+    /// The name of the program's file.
+    Check(&'a str),
+    Usage,
+}
+
 // A word that is empty or begins with `-` names no file.
 fn names_file(word: &str) -> bool
     ensures { result ≡ is_name word.now }
@@ -45,23 +59,46 @@ fn names_file(word: &str) -> bool
     }
 }
 
-// The files of `run`, where the words are that command.
-fn names_of(words: &[String]) -> Option<Names<'_>>
-    ensures { MatchOption result (command_of (map string_bytes words.now) ≡ Usage) (λ n. command_of (map string_bytes words.now) ≡ Run n.program.now n.input.now n.schedule.now) }
+fn run_words<'a>(verb: &str, names: Names<'a>) -> Command<'a>
+    ensures { chosen result ≡ run_of verb.now names.entry.program.now names.entry.input.now names.entry.schedule.now }
 {
-    if words.len() != 4 || words[0].as_str() != "run" {
-        return None;
+    if verb == "run"
+        && names_file(names.program)
+        && names_file(names.input)
+        && names_file(names.schedule)
+    {
+        Command::Run(names)
+    } else {
+        Command::Usage
+    }
+}
+
+fn check_words<'a>(verb: &str, program: &'a str) -> Command<'a>
+    ensures { chosen result ≡ check_of verb.now program.now }
+{
+    if verb == "check" && names_file(program) {
+        Command::Check(program)
+    } else {
+        Command::Usage
+    }
+}
+
+// The command of the words.
+fn read_command(words: &[String]) -> Command<'_>
+    ensures { chosen result ≡ command_of (map string_bytes words.now) }
+{
+    if words.len() == 2 {
+        return check_words(words[0].as_str(), words[1].as_str());
+    }
+    if words.len() != 4 {
+        return Command::Usage;
     }
     let names = Names {
         program: words[1].as_str(),
         input: words[2].as_str(),
         schedule: words[3].as_str(),
     };
-    if names_file(names.program) && names_file(names.input) && names_file(names.schedule) {
-        Some(names)
-    } else {
-        None
-    }
+    run_words(words[0].as_str(), names)
 }
 
 // Reads the schedule and runs the source.
@@ -73,6 +110,7 @@ fn run_schedule<S: Store, K: Sink>(
     out: &mut K,
 ) -> u8
     ensures { Ended (λ files. IsTold (S.told store.old schedule.now) files.schedule) (λ files a. ScheduleAnswers (source_of source.entry) files a)
+        (Only (λ files a. ScheduleAnswers (source_of source.entry) files a))
         (λ files. Rose (S.faults store.old schedule.now) (S.faults store.new schedule.now)) result
         (K.taken out.old) (K.taken out.new) (S.faults store.old) (S.faults store.new) (K.faults out.old) (K.faults out.new) }
 {
@@ -97,6 +135,7 @@ fn run_input<S: Store, K: Sink>(
     out: &mut K,
 ) -> u8
     ensures { Ended (λ files. IsTold (S.told store.old input.now) files.input × IsTold (S.told store.old schedule.now) files.schedule) (λ files a. InputAnswers (source_of source.entry) files a)
+        (Only (λ files a. InputAnswers (source_of source.entry) files a))
         (λ files. InputFailed input.now schedule.now files (S.faults store.old) (S.faults store.new)) result
         (K.taken out.old) (K.taken out.new) (S.faults store.old) (S.faults store.new) (K.faults out.old) (K.faults out.new) }
 {
@@ -129,14 +168,30 @@ fn run_files<S: Store, K: Sink>(alloc: Global, names: Names<'_>, store: &mut S, 
     }
 }
 
+// Reads the program and checks it.
+fn check_file<S: Store, K: Sink>(alloc: Global, program: &str, store: &mut S, out: &mut K) -> u8
+    ensures { ToolEnded (Check program.now) (S.told store.old) result
+        (K.taken out.old) (K.taken out.new) (S.faults store.old) (S.faults store.new) (K.faults out.old) (K.faults out.new) }
+{
+    match read_all(alloc, store, program, SOURCE_LIMIT) {
+        Err(ReadRefusal::Memory) => OUT_OF_MEMORY,
+        Err(ReadRefusal::Failed) => READ_FAULT,
+        Err(ReadRefusal::TooLong) => {
+            say_refused(Refusal::Check(CheckRefusal::TooMany(Kind::Source)), out)
+        }
+        Ok(bytes) => check_source(alloc, &bytes, out),
+    }
+}
+
 // Carries out the command of the words.
 fn carry_out<S: Store, K: Sink>(alloc: Global, words: &[String], store: &mut S, out: &mut K) -> u8
     ensures { ToolEnded (command_of (map string_bytes words.now)) (S.told store.old) result
         (K.taken out.old) (K.taken out.new) (S.faults store.old) (S.faults store.new) (K.faults out.old) (K.faults out.new) }
 {
-    match names_of(words) {
-        None => say(out, USAGE, 2),
-        Some(names) => run_files(alloc, names, store, out),
+    match read_command(words) {
+        Command::Run(names) => run_files(alloc, names, store, out),
+        Command::Check(program) => check_file(alloc, program, store, out),
+        Command::Usage => say(out, USAGE, 2),
     }
 }
 
@@ -145,7 +200,7 @@ fn carry_out<S: Store, K: Sink>(alloc: Global, words: &[String], store: &mut S, 
 ///
 /// | Status | Comes |
 /// |---|---|
-/// | 0 | the run is done |
+/// | 0 | the run is done, or the program is accepted |
 /// | 1 | the run ended with a fault |
 /// | 2 | the words are no command |
 /// | 3 | the program is refused |

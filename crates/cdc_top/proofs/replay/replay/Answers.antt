@@ -1,7 +1,7 @@
 use Rattle.std.proofs.Common.{◌≡◌, ◌∙◌, sym, subst, None}
 use Rattle.cdc_base.specs.Causes.{Rose}
 use Rattle.cdc_top.proofs.Replays.{replays_on, fails_there, not_some}
-use Rattle.cdc_top.proofs.Pieces.{wrote_part}
+use Rattle.cdc_text.proofs.Pieces.{wrote_part}
 use Rattle.cdc_top.proofs.replay.replay.Goals as goal
 
 pub next-piece-requires : goal.next-piece-requires

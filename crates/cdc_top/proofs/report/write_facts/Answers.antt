@@ -1,5 +1,5 @@
 use Rattle.cdc_top.specs.Report.{event_lines, count_line}
-use Rattle.cdc_top.proofs.Pieces.{wrote_first, wrote_second}
+use Rattle.cdc_text.proofs.Pieces.{wrote_first, wrote_second}
 use Rattle.cdc_top.proofs.report.write_facts.Goals as goal
 
 pub returns-in_err-write_events : goal.returns-in_err-write_events

@@ -1,6 +1,6 @@
 use Rattle.std.proofs.Common.{subst, [], ◌∷◌}
 use Rattle.std.specs.Prelude.{List, ℕ, codes}
-use Rattle.cdc_top.specs.Pieces.{Wrote}
+use Rattle.cdc_text.specs.Pieces.{Wrote}
 use Rattle.cdc_top.specs.Report.{joined, number, line_feed}
 use Rattle.cdc_top.proofs.report.write_fault.Goals as goal
 

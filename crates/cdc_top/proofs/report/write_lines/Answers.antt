@@ -1,6 +1,6 @@
 use Rattle.std.proofs.Common.{◌++◌}
 use Rattle.cdc_top.specs.Report.{event_lines, count_line, end_line}
-use Rattle.cdc_top.proofs.Pieces.{wrote_first, wrote_second}
+use Rattle.cdc_text.proofs.Pieces.{wrote_first, wrote_second}
 use Rattle.cdc_top.proofs.report.write_lines.Goals as goal
 
 pub returns-in_err-write_end : goal.returns-in_err-write_end

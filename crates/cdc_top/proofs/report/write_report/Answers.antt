@@ -1,6 +1,6 @@
 use Rattle.std.proofs.Common.{if◌then◌else◌, [], ◌∷◌}
 use Rattle.cdc_top.specs.Report.{report}
-use Rattle.cdc_top.proofs.Pieces.{wrote_first, wrote_second}
+use Rattle.cdc_text.proofs.Pieces.{wrote_first, wrote_second}
 use Rattle.cdc_top.proofs.report.write_report.Goals as goal
 
 pub returns-in_err-close_line : goal.returns-in_err-close_line

@@ -2,7 +2,7 @@ use Rattle.std.proofs.Common.{subst, ◌++◌}
 use Rattle.std.specs.Prelude.{ℕ}
 use Rattle.cdc_top.specs.declared.machine.Outcome.{Outcome}
 use Rattle.cdc_top.specs.declared.machine.Counts.{Counts}
-use Rattle.cdc_top.specs.Pieces.{Wrote}
+use Rattle.cdc_text.specs.Pieces.{Wrote}
 use Rattle.cdc_top.specs.Report.{end_line, event_lines, count_line}
 use Rattle.cdc_top.proofs.report.write_run.Goals as goal
 

@@ -1,10 +1,10 @@
 use Rattle.std.proofs.Common.{subst, ◌++◌}
 use Rattle.std.specs.Prelude.{List, ℕ}
 use Rattle.cdc_top.specs.Machine.{Machine, play}
-use Rattle.cdc_top.specs.Pieces.{Wrote}
+use Rattle.cdc_text.specs.Pieces.{Wrote}
 use Rattle.cdc_top.specs.Replay.{fresh}
 use Rattle.cdc_top.specs.Report.{line_end, report}
-use Rattle.cdc_top.proofs.Pieces.{wrote_first, wrote_second}
+use Rattle.cdc_text.proofs.Pieces.{wrote_first, wrote_second}
 use Rattle.cdc_top.proofs.Answered.{closes}
 use Rattle.cdc_top.proofs.run.play_out.Goals as goal
 

@@ -60,6 +60,6 @@ returns g c =
     ended_behind wide _ _ _ _ _ _ _ _
     (λ f is. (read, subst (λ o. IsTold o f.input) (c.in-Ok.ensures.told c.args.names.input.now) is.0, subst (λ o. IsTold o f.schedule) (c.in-Ok.ensures.told c.args.names.schedule.now) is.1))
     (λ f a is. inr (source, accepted, is))
-    (λ f a is. source_behind (wide f) a source accepted (λ other held. c.in-Some.ensures.only other held.is_source) is)
+    (λ f a only b is. only b (source_behind (wide f) b source accepted (λ other held. c.in-Some.ensures.only other held.is_source) is))
     (λ f failed. inr (source, accepted, failed_before c.args.names.input.now c.args.names.schedule.now f (g.S.Store.faults c.args.store.now) (g.S.Store.faults c.read_all.new.store) (g.S.Store.faults c.run_input.new.store) same failed))
     same c.run_input.ensures

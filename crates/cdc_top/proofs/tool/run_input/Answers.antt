@@ -54,6 +54,6 @@ returns-else-not-is_empty g c =
     ended_behind wide _ _ _ _ _ _ _ _
     (λ f told. (whole_told input_limit _ _ c.in-Ok.ensures.whole, subst (λ o. IsTold o f.schedule) (c.in-Ok.ensures.told c.args.schedule.now) told))
     (λ f a is. inr (empty, is))
-    (λ f a is. input_behind (source_of c.args.source) (wide f) a empty is)
+    (λ f a only b is. only b (input_behind (source_of c.args.source) (wide f) b empty is))
     (λ f rose. inr (empty, subst (λ k. Rose k (g.S.Store.faults c.run_schedule.new.store c.args.schedule.now)) (same c.args.schedule.now) rose))
     same c.run_schedule.ensures

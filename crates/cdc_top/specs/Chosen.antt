@@ -1,0 +1,9 @@
+-- The command that words were read as, without its references.
+use Rattle.cdc_top.specs.declared.tool.Command.{Command as ReadCommand}
+use Rattle.cdc_top.specs.declared.tool.Command.TheVariants as read
+use Rattle.cdc_top.specs.Answer.{Command, Run, Check, Usage}
+
+abbrev pub chosen : ReadCommand → Command
+chosen (read.Run names) = Run names.program.now names.input.now names.schedule.now
+chosen (read.Check program) = Check program.now
+chosen read.Usage = Usage
