@@ -1,5 +1,5 @@
 -- From the statements of a program to its answer.
-use Rattle.std.proofs.Common.{◌≡◌, ℕ, zero, suc, ◌-◌, ◌<◌, ◌≤◌, ℤ, pos, List, [], ◌∷◌, ◌++◌, length, take, map, get_or, replicate, Result, Ok, Err, refl, sym, ap, ap₂, ◌∙◌, subst, arith}
+use Rattle.std.proofs.Common.{◌≡◌, false, ℕ, zero, suc, ◌-◌, ◌<◌, ◌≤◌, ℤ, pos, List, [], ◌∷◌, ◌++◌, length, take, map, get_or, replicate, Result, Ok, Err, refl, sym, ap, ap₂, ◌∙◌, subst, arith}
 use Rattle.std.specs.Prelude.{Option, Some, None, slice_get}
 use Rattle.std.proofs.lemmas.List.{append-nil}
 use Rattle.std.proofs.Math.Seq.{take-append_seam}
@@ -16,13 +16,14 @@ use Rattle.cdc_prog.specs.Units.{shapes_in, body_in, body_of, unit, process_of}
 use Rattle.cdc_prog.specs.Bodies.{HasOnly}
 use Rattle.cdc_prog.specs.Resolved.{StmtFits}
 use Rattle.cdc_prog.specs.InOrder.{output, ends}
+use Rattle.cdc_prog.specs.Lines.{opened, is_open}
 use Rattle.cdc_prog.specs.Meaning.{Meaning, bytes_of, meaning}
 use Rattle.cdc_prog.specs.Translation.{unit_of, stmts_of}
 use Rattle.cdc_meaning.specs.declared.print.Stop.{Stop}
 use Rattle.cdc_meaning.specs.declared.print.Stop.TheVariants.{Faulted, Sink}
 use Rattle.cdc_meaning.specs.Runs.{store_of}
-use Rattle.cdc_meaning.specs.Carried.{State, Comes, size_of_taken}
-use Rattle.cdc_meaning.specs.Answers.{IsRun, HasPlainCause, answer_of}
+use Rattle.cdc_meaning.specs.Carried.{Page, printed, whole, State, Comes, size_of_taken}
+use Rattle.cdc_meaning.specs.Answers.{IsRun, TellsLine, HasPlainCause, answer_of}
 
 -- statements that hold no CALL fit whatever the ranks
 pub without_calls : (p : Program) (ranks : ℕ → ℕ) (rank : ℕ) (shapes : List (List Dim)) (slots : ℕ) (s : Stmt) → StmtFits p ranks rank shapes slots s → HasOnly (Unit {0}) ⊥ ⊥ s → StmtFits p (λ u. 0) 0 shapes slots s
@@ -86,17 +87,36 @@ front_of (Some bs) (Some cs) all left is le =
         let n : length cs - length bs ≡ length (c ∷ cs) - length (b ∷ bs) = omega arith in
         ap₂ (λ x xs. x ∷ xs) same (front bs cs all left rest (omega (arith, le)) ∙ ap (λ m. bs ++ take m all) n)
 
-pub is_run : (texts : List (List ℕ)) (p : Process) (x y : State) (r : Result (Unit {0}) Stop) → Comes texts p x r Halt y → IsRun (record { bytes = bytes_of texts (output p x.store); end = ends p x.store }) x.taken y.taken (answer_of r)
-is_run texts p x y (Ok u) h = (sym (h.whole ∙ grown_none y.taken), h.ends)
-is_run texts p x y (Err (Faulted f)) h = (sym (h.whole ∙ grown_none y.taken), h.ends)
-is_run texts p x y (Err Sink) h = front_of x.taken y.taken (bytes_of texts (output p x.store)) h.left h.front h.longer
+pub is_run : (texts : List (List ℕ)) (p : Process) (x y : State) (r : Result (Unit {0}) Stop) → Comes texts p x r Halt y → IsRun (record { bytes = bytes_of texts (output p x.store); end = ends p x.store }) x.page.taken y.page.taken (answer_of r)
+is_run texts p x y (Ok u) h = (sym (ap (λ (page : Page). page.taken) h.whole ∙ grown_none y.page.taken), h.ends)
+is_run texts p x y (Err (Faulted f)) h = (sym (ap (λ (page : Page). page.taken) h.whole ∙ grown_none y.page.taken), h.ends)
+is_run texts p x y (Err Sink) h = front_of x.page.taken y.page.taken (bytes_of texts (output p x.store)) h.left h.front h.longer
 
 pub has_cause : (texts : List (List ℕ)) (p : Process) (x y : State) (r : Result (Unit {0}) Stop) → Comes texts p x r Halt y → HasPlainCause x.faults y.faults (answer_of r)
 has_cause texts p x y (Ok u) h = record { later = omega (arith, h.faults); failed = λ e. cc; kept = λ e. h.faults }
 has_cause texts p x y (Err (Faulted f)) h = record { later = omega (arith, h.faults); failed = λ e. cc; kept = λ e. h.faults }
 has_cause texts p x y (Err Sink) h = record { later = h.later; failed = λ e. h.rose; kept = λ e. absurd (e refl) }
 
-pub program_run : (p : Program) (records : Input) (q : Process) (x y : State) (r : Result (Unit {0}) Stop) → process_of p records ≡ q → x.store ≡ zeros → Comes p.texts q x r Halt y → IsRun (meaning p records) x.taken y.taken (answer_of r)
+line_of : (texts : List (List ℕ)) (p : Process) (x y : State) → x.page.is_open ≡ false → whole texts p x ≡ printed y.page [] → y.page.is_open ≡ is_open (bytes_of texts (output p x.store))
+line_of texts p x y shut whole = sym (ap (λ (page : Page). page.is_open) whole) ∙ ap (λ o. opened o (bytes_of texts (output p x.store))) shut
+
+pub tells_line : (texts : List (List ℕ)) (p : Process) (x y : State) (r : Result (Unit {0}) Stop) → x.page.is_open ≡ false → Comes texts p x r Halt y
+    → TellsLine (record { bytes = bytes_of texts (output p x.store); end = ends p x.store }) (record { answer = answer_of r; is_open = y.page.is_open })
+tells_line texts p x y (Ok u) shut h = λ sink memory. line_of texts p x y shut h.whole
+tells_line texts p x y (Err (Faulted f)) shut h = λ sink memory. line_of texts p x y shut h.whole
+tells_line texts p x y (Err Sink) shut h = λ sink memory. absurd (sink refl)
+
+-- the meaning of a program is that of its process on zeros
+meaning_is : (p : Program) (records : Input) (q : Process) (s : Store) → process_of p records ≡ q → s ≡ zeros → record { bytes = bytes_of p.texts (output q s); end = ends q s } ≡ meaning p records
+meaning_is p records q s is store =
+    let m : Process → Store → Meaning = λ main t. record { bytes = bytes_of p.texts (output main t); end = ends main t } in
+    ap₂ m (sym is) store
+
+pub program_run : (p : Program) (records : Input) (q : Process) (x y : State) (r : Result (Unit {0}) Stop) → process_of p records ≡ q → x.store ≡ zeros → Comes p.texts q x r Halt y → IsRun (meaning p records) x.page.taken y.page.taken (answer_of r)
 program_run p records q x y r is store h =
-    let m : Process → Store → Meaning = λ main s. record { bytes = bytes_of p.texts (output main s); end = ends main s } in
-    subst (λ z. IsRun z x.taken y.taken (answer_of r)) (ap₂ m (sym is) store) (is_run p.texts q x y r h)
+    subst (λ m. IsRun m x.page.taken y.page.taken (answer_of r)) (meaning_is p records q x.store is store) (is_run p.texts q x y r h)
+
+pub program_tells : (p : Program) (records : Input) (q : Process) (x y : State) (r : Result (Unit {0}) Stop) → process_of p records ≡ q → x.store ≡ zeros → x.page.is_open ≡ false → Comes p.texts q x r Halt y
+    → TellsLine (meaning p records) (record { answer = answer_of r; is_open = y.page.is_open })
+program_tells p records q x y r is store shut h =
+    subst (λ m. TellsLine m (record { answer = answer_of r; is_open = y.page.is_open })) (meaning_is p records q x.store is store) (tells_line p.texts q x y r shut h)

@@ -1,5 +1,5 @@
 -- What was carried out so far, and what comes then.
-use Rattle.std.proofs.Common.{◌≡◌, ℕ, suc, ◌+◌, ◌≤◌, ◌<◌, List, [], ◌∷◌, ◌++◌, length, take, drop, get_or, Result, Ok, Err, refl, sym, ap, ◌∙◌, subst, append_assoc, arith, add-one}
+use Rattle.std.proofs.Common.{◌≡◌, ℕ, Bool, suc, ◌+◌, ◌≤◌, ◌<◌, List, [], ◌∷◌, ◌++◌, length, take, drop, get_or, Result, Ok, Err, refl, sym, ap, ap₂, ◌∙◌, subst, append_assoc, arith, add-one}
 use Rattle.std.proofs.Math.Seq.{drop-cons}
 use Rattle.std.specs.Prelude.{Option, Some, None}
 use Rattle.std.proofs.lemmas.List.{length-append, take-append-drop, drop_all}
@@ -9,12 +9,14 @@ use Rattle.cdc_base.proofs.Grown.{grown-grown}
 use Rattle.cdc_prog.specs.Process as process
 use Rattle.cdc_prog.specs.Process.{Process, Say, Tick, Fail}
 use Rattle.cdc_prog.specs.InOrder.{output, ends}
+use Rattle.cdc_prog.specs.Lines.{opened}
 use Rattle.cdc_prog.specs.Meaning.{bytes_of, bytes_of_piece}
 use Rattle.cdc_meaning.specs.declared.frame.Fault.{Fault}
 use Rattle.cdc_meaning.specs.declared.print.Stop.{Stop}
 use Rattle.cdc_meaning.specs.declared.print.Stop.TheVariants.{Faulted, Sink}
 use Rattle.cdc_meaning.specs.Runs.{Same}
-use Rattle.cdc_meaning.specs.Carried.{State, Follows, IsCut, Comes, size_of_taken}
+use Rattle.cdc_meaning.specs.Carried.{Page, printed, State, Follows, IsCut, Comes, size_of_taken}
+use Rattle.cdc_meaning.proofs.Opened.{opened-opened}
 
 module _ (texts : List (List ℕ)) where
   pub follows_after : {p q r : Process} {x y z : State} → Follows texts p x q y → Follows texts q y r z → Follows texts p x r z
@@ -28,7 +30,7 @@ module _ (texts : List (List ℕ)) where
   pub cut_after : {p q : Process} {x y z : State} → Follows texts p x q y → IsCut texts q y z → IsCut texts p x z
   cut_after {p} {q} {x} {y} {z} h k = record {
     left = k.left;
-    front = k.front ∙ sym h.whole;
+    front = k.front ∙ ap (λ (page : Page). page.taken) (sym h.whole);
     longer = omega (arith, h.longer, k.longer);
     later = omega (arith, h.faults, k.later);
     rose = subst (λ n. Rose n z.faults) h.faults k.rose;
@@ -40,11 +42,11 @@ module _ (texts : List (List ℕ)) where
   comes_after p q r x y z (Err Sink) h k = cut_after h k
 
   -- what prints nothing leaves the sink alone
-  pub same_follows : {p q : Process} {x y : State} → Same p x.store q y.store → x.taken ≡ y.taken → x.faults ≡ y.faults → Follows texts p x q y
-  same_follows {p} {q} {x} {y} h taken faults = record {
-    whole = ap (λ ps. grown x.taken (bytes_of texts ps)) h.output ∙ ap (λ o. grown o (bytes_of texts (output q y.store))) taken;
+  pub same_follows : {p q : Process} {x y : State} → Same p x.store q y.store → x.page ≡ y.page → x.faults ≡ y.faults → Follows texts p x q y
+  same_follows {p} {q} {x} {y} h page faults = record {
+    whole = ap (λ ps. printed x.page (bytes_of texts ps)) h.output ∙ ap (λ o. printed o (bytes_of texts (output q y.store))) page;
     ends = h.ends;
-    longer = subst (λ o. size_of_taken x.taken ≤ size_of_taken o) taken (omega arith);
+    longer = subst (λ (o : Page). size_of_taken x.page.taken ≤ size_of_taken o.taken) page (omega arith);
     faults = sym faults;
   }
 
@@ -58,9 +60,9 @@ module _ (texts : List (List ℕ)) where
       subst (λ a. Comes texts p x a r z) (sym is) (comes_after p p' r x y z (Err e) h (comes_err p' q r y z e k))
 
   -- an early end by a fault
-  pub faults : (p p' r : Process) (x y z : State) (result : Result (Unit {0}) Stop) (f : Fault) → result ≡ Err (Faulted f) → Follows texts p x p' y → Same p' y.store (Fail f.kind f.line) z.store → y.taken ≡ z.taken → y.faults ≡ z.faults → Comes texts p x result r z
-  faults p p' r x y z result f is h k taken same =
-      subst (λ a. Comes texts p x a r z) (sym is) (follows_after h (same_follows k taken same))
+  pub faults : (p p' r : Process) (x y z : State) (result : Result (Unit {0}) Stop) (f : Fault) → result ≡ Err (Faulted f) → Follows texts p x p' y → Same p' y.store (Fail f.kind f.line) z.store → y.page ≡ z.page → y.faults ≡ z.faults → Comes texts p x result r z
+  faults p p' r x y z result f is h k page same =
+      subst (λ a. Comes texts p x a r z) (sym is) (follows_after h (same_follows k page same))
 
   pub same_place : {p : Process} {x : State} → Follows texts p x p x
   same_place {p} {x} = same_follows (record { output = refl; ends = refl }) refl refl
@@ -75,26 +77,36 @@ longer_grown : (o : Option (List ℕ)) (piece : List ℕ) → size_of_taken o �
 longer_grown None piece = omega arith
 longer_grown (Some bytes) piece = omega (arith, length-append bytes piece)
 
-pub said : (texts : List (List ℕ)) (piece : process.Piece) (rest : Process) (x y : State) → x.store ≡ y.store → y.taken ≡ grown x.taken (bytes_of_piece texts piece) → y.faults ≡ x.faults → Follows texts (Say piece rest) x rest y
-said texts piece rest x y store is same = record {
-  whole = sym (grown-grown x.taken (bytes_of_piece texts piece) (bytes_of texts (output rest x.store))) ∙ ap (λ o. grown o (bytes_of texts (output rest x.store))) (sym is) ∙ ap (λ s. grown y.taken (bytes_of texts (output rest s))) store;
-  ends = ap (ends rest) store;
-  longer = subst (λ o. size_of_taken x.taken ≤ size_of_taken o) (sym is) (longer_grown x.taken (bytes_of_piece texts piece));
-  faults = same;
-}
+abbrev page_of : Option (List ℕ) → Bool → Page
+page_of taken is_open = record { taken = taken; is_open = is_open }
+
+printed-printed : (page : Page) (xs ys : List ℕ) → printed (printed page xs) ys ≡ printed page (xs ++ ys)
+printed-printed page xs ys = ap₂ page_of (grown-grown page.taken xs ys) (opened-opened page.is_open xs ys)
+
+pub said : (texts : List (List ℕ)) (piece : process.Piece) (rest : Process) (x y : State) → x.store ≡ y.store → y.page.taken ≡ grown x.page.taken (bytes_of_piece texts piece) → y.page.is_open ≡ opened x.page.is_open (bytes_of_piece texts piece)
+    → y.faults ≡ x.faults → Follows texts (Say piece rest) x rest y
+said texts piece rest x y store took opens same =
+    let bytes = bytes_of_piece texts piece in
+    let is : y.page ≡ printed x.page bytes = ap₂ page_of took opens in
+    record {
+      whole = sym (printed-printed x.page bytes (bytes_of texts (output rest x.store))) ∙ ap (λ o. printed o (bytes_of texts (output rest x.store))) (sym is) ∙ ap (λ s. printed y.page (bytes_of texts (output rest s))) store;
+      ends = ap (ends rest) store;
+      longer = subst (λ o. size_of_taken x.page.taken ≤ size_of_taken o) (sym took) (longer_grown x.page.taken bytes);
+      faults = same;
+    }
 
 bytes_cut : (texts : List (List ℕ)) (o : Option (List ℕ)) (n : ℕ) (piece more : List ℕ) → grown (grown o (take n piece)) (drop n piece ++ more) ≡ grown o (piece ++ more)
 bytes_cut texts o n piece more =
     grown-grown o (take n piece) (drop n piece ++ more) ∙ ap (grown o) (sym (append_assoc (take n piece) (drop n piece) more) ∙ ap (λ l. l ++ more) (take-append-drop n piece))
 
-pub cut_said : (texts : List (List ℕ)) (piece : process.Piece) (rest : Process) (x y : State) → GrewInPart x.taken y.taken (bytes_of_piece texts piece) → x.faults ≤ y.faults → Rose x.faults y.faults → IsCut texts (Say piece rest) x y
+pub cut_said : (texts : List (List ℕ)) (piece : process.Piece) (rest : Process) (x y : State) → GrewInPart x.page.taken y.page.taken (bytes_of_piece texts piece) → x.faults ≤ y.faults → Rose x.faults y.faults → IsCut texts (Say piece rest) x y
 cut_said texts piece rest x y grew later rose =
     let bytes = bytes_of_piece texts piece in
     let more = bytes_of texts (output rest x.store) in
     record {
       left = drop grew.count bytes ++ more;
-      front = ap (λ o. grown o (drop grew.count bytes ++ more)) grew.front ∙ bytes_cut texts x.taken grew.count bytes more;
-      longer = subst (λ o. size_of_taken x.taken ≤ size_of_taken o) (sym grew.front) (longer_grown x.taken (take grew.count bytes));
+      front = ap (λ o. grown o (drop grew.count bytes ++ more)) grew.front ∙ bytes_cut texts x.page.taken grew.count bytes more;
+      longer = subst (λ o. size_of_taken x.page.taken ≤ size_of_taken o) (sym grew.front) (longer_grown x.page.taken (take grew.count bytes));
       later = later;
       rose = rose;
     }

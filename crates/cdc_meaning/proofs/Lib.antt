@@ -1,6 +1,7 @@
 mod InMemory
 mod Values
 mod Moves
+mod Opened
 mod Comes
 mod Statements
 mod Answers

@@ -1,5 +1,5 @@
 -- What code that carries out statements owes to the sink: the bytes that are taken go on with those that the process prints.
-use Rattle.std.specs.Prelude.{◌≡◌, ℕ, ◌≤◌, ◌<◌, ℤ, List, length, Option, Some, None, Result, Ok, Err}
+use Rattle.std.specs.Prelude.{◌≡◌, ℕ, ◌≤◌, ◌<◌, ℤ, Bool, List, length, Option, Some, None, Result, Ok, Err}
 use Rattle.cdc_base.specs.Outside.{grown}
 use Rattle.cdc_base.specs.Causes.{Rose}
 use Rattle.cdc_prog.specs.Data.{Store}
@@ -9,6 +9,7 @@ use Rattle.cdc_prog.specs.Process.{Process, Fail}
 use Rattle.cdc_prog.specs.Expressions.{Surroundings}
 use Rattle.cdc_prog.specs.Statements.{Runs}
 use Rattle.cdc_prog.specs.InOrder.{output, ends}
+use Rattle.cdc_prog.specs.Lines.{opened}
 use Rattle.cdc_prog.specs.Meaning.{bytes_of}
 use Rattle.cdc_meaning.specs.declared.print.Piece.{Piece}
 use Rattle.cdc_meaning.specs.declared.print.Piece.TheVariants.{Number, Space, Text, LineEnd}
@@ -28,36 +29,45 @@ abbrev pub IsThere : (texts : ℕ) → Piece → Type 0
 IsThere texts (Text k) = k < texts
 IsThere texts piece = Unit {0}
 
--- what statements work on: the store, the surroundings, and the bytes that the sink took, with the count of its faults
+-- what was printed: the bytes that the sink took, where they are told, and whether their last line is open
+pub record Page : Type 0 where
+  pub taken : Option (List ℕ)
+  pub is_open : Bool
+
+abbrev pub printed : Page → List ℕ → Page
+printed page bytes = record { taken = grown page.taken bytes; is_open = opened page.is_open bytes }
+
+-- what statements work on: the store, the surroundings, and what was printed, with the count of the sink's faults
 pub record State : Type 0 where
   pub store : Store
   pub around : Surroundings
-  pub taken : Option (List ℕ)
+  pub page : Page
   pub faults : ℕ
 
-abbrev pub state : (words slots : List ℤ) → Input → Option (List ℕ) → ℕ → State
-state words slots left taken faults = record { store = store_of words; around = around slots left; taken = taken; faults = faults }
+abbrev pub state : (words slots : List ℤ) → Input → (taken : Option (List ℕ)) → (is_open : Bool) → (faults : ℕ) → State
+state words slots left taken is_open faults =
+    record { store = store_of words; around = around slots left; page = record { taken = taken; is_open = is_open }; faults = faults }
 
 abbrev pub size_of_taken : Option (List ℕ) → ℕ
 size_of_taken None = 0
 size_of_taken (Some bytes) = length bytes
 
--- the bytes that will have been taken when a process has printed
-abbrev pub whole : (texts : List (List ℕ)) → Process → State → Option (List ℕ)
-whole texts p x = grown x.taken (bytes_of texts (output p x.store))
+-- what will have been printed when a process has printed
+abbrev pub whole : (texts : List (List ℕ)) → Process → State → Page
+whole texts p x = printed x.page (bytes_of texts (output p x.store))
 
 -- one process in its state prints what the other still has to print in its own, beside what was printed between, and ends as it does
 pub record Follows (texts : List (List ℕ)) (p : Process) (x : State) (q : Process) (y : State) : Type 0 where
   pub whole : whole texts p x ≡ whole texts q y
   pub ends : ends p x.store ≡ ends q y.store
-  pub longer : size_of_taken x.taken ≤ size_of_taken y.taken
+  pub longer : size_of_taken x.page.taken ≤ size_of_taken y.page.taken
   pub faults : y.faults ≡ x.faults
 
 -- the sink failed when it had taken a front of what the process prints
 pub record IsCut (texts : List (List ℕ)) (p : Process) (x y : State) : Type 0 where
   pub left : List ℕ
-  pub front : grown y.taken left ≡ whole texts p x
-  pub longer : size_of_taken x.taken ≤ size_of_taken y.taken
+  pub front : grown y.page.taken left ≡ (whole texts p x).taken
+  pub longer : size_of_taken x.page.taken ≤ size_of_taken y.page.taken
   pub later : x.faults ≤ y.faults
   pub rose : Rose x.faults y.faults
 

@@ -6,3 +6,4 @@ pub mod Unread
 pub mod Carried
 pub mod Loops
 pub mod Answers
+pub mod Examples

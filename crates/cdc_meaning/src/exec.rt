@@ -17,6 +17,14 @@ use crate::steps::{Turns, assign, begin, raise};
 use cdc_base::Sink;
 use cdc_prog::Stmt;
 
+/// What is left of the input, and whether the line that was printed last is open.
+#[derive(Clone, Copy)]
+pub struct Streams<'a> {
+    pub unread: Unread<'a>,
+    /// Bytes stand behind the last line end that was printed.
+    pub is_open: bool,
+}
+
 /// Carries out a statement of serial code that has no DOALL and no CALL.
 ///
 /// # Errors
@@ -27,7 +35,7 @@ pub fn exec<K: Sink>(
     frame: &Frame,
     words: &mut [i64],
     slots: &mut [i64],
-    unread: &mut Unread,
+    streams: &mut Streams,
     out: &mut K,
     statement: &Stmt,
 ) -> Result<(), Stop>
@@ -35,7 +43,7 @@ pub fn exec<K: Sink>(
     requires room { length words.old ≡ frame.now.program.now.words }
     requires fits { StmtFits (program_of frame.now.program.now) (λ u. 0) 0 (shapes_of frame.now) (length slots.old) (stmt_of statement.now) }
     requires serial { HasOnly (Unit {0}) ⊥ ⊥ (stmt_of statement.now) }
-    ensures { (calls : ℕ → List ℕ → Runs) → Carried frame.now.program.now.texts (stmt calls (binding frame.now) (stmt_of statement.now)) (state words.old slots.old (left_of unread.old) (K.taken out.old) (K.faults out.old)) result (state words.new slots.new (left_of unread.new) (K.taken out.new) (K.faults out.new)) }
+    ensures { (calls : ℕ → List ℕ → Runs) → Carried frame.now.program.now.texts (stmt calls (binding frame.now) (stmt_of statement.now)) (state words.old slots.old (left_of streams.old.unread) (K.taken out.old) streams.old.is_open (K.faults out.old)) result (state words.new slots.new (left_of streams.new.unread) (K.taken out.new) streams.new.is_open (K.faults out.new)) }
 {
     match statement {
         Stmt::Assign {
@@ -50,10 +58,10 @@ pub fn exec<K: Sink>(
             for arm in arms.as_slice() {
                 let holds = value(frame, words, slots, arm.line, &arm.cond)?;
                 if holds != 0 {
-                    return exec_all(frame, words, slots, unread, out, arm.body.as_slice());
+                    return exec_all(frame, words, slots, streams, out, arm.body.as_slice());
                 }
             }
-            exec_all(frame, words, slots, unread, out, other.as_slice())
+            exec_all(frame, words, slots, streams, out, other.as_slice())
         }
         Stmt::Do {
             control,
@@ -63,11 +71,26 @@ pub fn exec<K: Sink>(
             bump,
         } => {
             let turns = begin(frame, words, slots, control, *first, *again, *bump)?;
-            repeat(frame, words, slots, unread, out, body.as_slice(), turns)
+            repeat(frame, words, slots, streams, out, body.as_slice(), turns)
         }
-        Stmt::Print { line, items } => print(frame, words, slots, out, *line, items.as_slice()),
+        Stmt::Print { line, items } => print(
+            frame,
+            words,
+            slots,
+            out,
+            &mut streams.is_open,
+            *line,
+            items.as_slice(),
+        ),
         Stmt::Read { line, targets } => {
-            read(frame, words, slots, unread, *line, targets.as_slice())?;
+            read(
+                frame,
+                words,
+                slots,
+                &mut streams.unread,
+                *line,
+                targets.as_slice(),
+            )?;
             Ok(())
         }
         // There is neither in such code.
@@ -85,7 +108,7 @@ pub fn exec_all<K: Sink>(
     frame: &Frame,
     words: &mut [i64],
     slots: &mut [i64],
-    unread: &mut Unread,
+    streams: &mut Streams,
     out: &mut K,
     statements: &[Stmt],
 ) -> Result<(), Stop>
@@ -93,10 +116,10 @@ pub fn exec_all<K: Sink>(
     requires room { length words.old ≡ frame.now.program.now.words }
     requires fits { StmtFits (program_of frame.now.program.now) (λ u. 0) 0 (shapes_of frame.now) (length slots.old) (stmts_of statements.now) }
     requires serial { HasOnly (Unit {0}) ⊥ ⊥ (stmts_of statements.now) }
-    ensures { (calls : ℕ → List ℕ → Runs) → Carried frame.now.program.now.texts (stmt calls (binding frame.now) (stmts_of statements.now)) (state words.old slots.old (left_of unread.old) (K.taken out.old) (K.faults out.old)) result (state words.new slots.new (left_of unread.new) (K.taken out.new) (K.faults out.new)) }
+    ensures { (calls : ℕ → List ℕ → Runs) → Carried frame.now.program.now.texts (stmt calls (binding frame.now) (stmts_of statements.now)) (state words.old slots.old (left_of streams.old.unread) (K.taken out.old) streams.old.is_open (K.faults out.old)) result (state words.new slots.new (left_of streams.new.unread) (K.taken out.new) streams.new.is_open (K.faults out.new)) }
 {
     for statement in statements {
-        exec(frame, words, slots, unread, out, statement)?;
+        exec(frame, words, slots, streams, out, statement)?;
     }
     Ok(())
 }
@@ -107,7 +130,7 @@ fn repeat<K: Sink>(
     frame: &Frame,
     words: &mut [i64],
     slots: &mut [i64],
-    unread: &mut Unread,
+    streams: &mut Streams,
     out: &mut K,
     body: &[Stmt],
     turns: Turns,
@@ -118,10 +141,10 @@ fn repeat<K: Sink>(
     requires serial { HasOnly (Unit {0}) ⊥ ⊥ (stmts_of body.now) }
     requires again { IsScalar frame.now.program.now.objects (shapes_of frame.now) (length slots.old) turns.again.var }
     requires bump { IsScalar frame.now.program.now.objects (shapes_of frame.now) (length slots.old) turns.bump.var }
-    ensures { (calls : ℕ → List ℕ → Runs) → Carried frame.now.program.now.texts (turns_left turns.count (binding frame.now) turns (stmt calls (binding frame.now) (stmts_of body.now))) (state words.old slots.old (left_of unread.old) (K.taken out.old) (K.faults out.old)) result (state words.new slots.new (left_of unread.new) (K.taken out.new) (K.faults out.new)) }
+    ensures { (calls : ℕ → List ℕ → Runs) → Carried frame.now.program.now.texts (turns_left turns.count (binding frame.now) turns (stmt calls (binding frame.now) (stmts_of body.now))) (state words.old slots.old (left_of streams.old.unread) (K.taken out.old) streams.old.is_open (K.faults out.old)) result (state words.new slots.new (left_of streams.new.unread) (K.taken out.new) streams.new.is_open (K.faults out.new)) }
 {
     for _ in 0..turns.count {
-        exec_all(frame, words, slots, unread, out, body)?;
+        exec_all(frame, words, slots, streams, out, body)?;
         raise(frame, words, slots, turns)?;
     }
     Ok(())

@@ -13,4 +13,4 @@ mod steps;
 #[cfg(test)]
 mod tests;
 
-pub use run::{Plain, run_plain};
+pub use run::{Plain, Ran, run_lines, run_plain};

@@ -5,6 +5,7 @@ ghost use Rattle.cdc_base.specs.Outside.{grown, GrewInPart};
 ghost use Rattle.cdc_base.specs.Causes.{HasCause};
 ghost use Rattle.cdc_prog.specs.Input.{Input};
 ghost use Rattle.cdc_prog.specs.Process.{Process, Say};
+ghost use Rattle.cdc_prog.specs.Lines.{opened};
 ghost use Rattle.cdc_prog.specs.Meaning.{bytes_of_piece};
 ghost use Rattle.cdc_prog.specs.Plain as plain;
 ghost use Rattle.cdc_prog.specs.Resolved.{ItemFits};
@@ -76,25 +77,52 @@ fn put<K: Sink>(out: &mut K, texts: &[List<u8>], piece: Piece) -> Result<(), Sin
     }
 }
 
-// Writes a piece.
-fn say<K: Sink>(out: &mut K, texts: &[List<u8>], piece: Piece) -> Result<(), Stop>
+// Whether a line is open behind a piece.
+fn opens(texts: &[List<u8>], piece: Piece, before: bool) -> bool
     requires { IsThere (length texts.now) piece }
-    ensures { (words slots : List ℤ) (left : Input) (rest : Process) → Comes texts.now (Say (spoken piece) rest) (state words slots left (K.taken out.old) (K.faults out.old)) result rest (state words slots left (K.taken out.new) (K.faults out.new)) }
+    ensures { result ≡ opened before (bytes_of_piece texts.now (spoken piece)) }
+{
+    match piece {
+        Piece::Number(_) | Piece::Space => true,
+        Piece::Text(number) => match texts[number as usize].as_slice().last() {
+            Some(byte) => *byte != b'\n',
+            None => before,
+        },
+        Piece::LineEnd => false,
+    }
+}
+
+// Writes a piece, and keeps whether a line is open behind it.
+fn say<K: Sink>(
+    out: &mut K,
+    is_open: &mut bool,
+    texts: &[List<u8>],
+    piece: Piece,
+) -> Result<(), Stop>
+    requires { IsThere (length texts.now) piece }
+    ensures { (words slots : List ℤ) (left : Input) (rest : Process) → Comes texts.now (Say (spoken piece) rest) (state words slots left (K.taken out.old) is_open.old (K.faults out.old)) result rest (state words slots left (K.taken out.new) is_open.new (K.faults out.new)) }
 {
     put(out, texts, piece)?;
+    *is_open = opens(texts, piece, *is_open);
     Ok(())
 }
 
 // Writes a piece, behind a space where it is not the first of its line.
-fn write<K: Sink>(out: &mut K, texts: &[List<u8>], first: bool, piece: Piece) -> Result<(), Stop>
+fn write<K: Sink>(
+    out: &mut K,
+    is_open: &mut bool,
+    texts: &[List<u8>],
+    first: bool,
+    piece: Piece,
+) -> Result<(), Stop>
     requires { IsThere (length texts.now) piece }
-    ensures { (words slots : List ℤ) (left : Input) (rest : Process) → Comes texts.now (gap first (Say (spoken piece) rest)) (state words slots left (K.taken out.old) (K.faults out.old)) result rest (state words slots left (K.taken out.new) (K.faults out.new)) }
+    ensures { (words slots : List ℤ) (left : Input) (rest : Process) → Comes texts.now (gap first (Say (spoken piece) rest)) (state words slots left (K.taken out.old) is_open.old (K.faults out.old)) result rest (state words slots left (K.taken out.new) is_open.new (K.faults out.new)) }
 {
     if first {
-        return say(out, texts, piece);
+        return say(out, is_open, texts, piece);
     }
-    say(out, texts, Piece::Space)?;
-    say(out, texts, piece)
+    say(out, is_open, texts, Piece::Space)?;
+    say(out, is_open, texts, piece)
 }
 
 // Evaluates an item, and writes it behind the space.
@@ -103,6 +131,7 @@ fn show<K: Sink>(
     words: &[i64],
     slots: &[i64],
     out: &mut K,
+    is_open: &mut bool,
     line: u32,
     first: bool,
     item: &Item,
@@ -110,14 +139,14 @@ fn show<K: Sink>(
     requires sound { IsSound frame.now }
     requires room { length words.now ≡ frame.now.program.now.words }
     requires fits { ItemFits frame.now.program.now.objects (shapes_of frame.now) (length slots.now) (length frame.now.program.now.texts) (item_of item.now) }
-    ensures { (left : Input) (more : List plain.Item) (rest : Process) → Comes frame.now.program.now.texts (items (binding frame.now) line first (item_of item.now ∷ more) (around slots.now left) rest) (state words.now slots.now left (K.taken out.old) (K.faults out.old)) result (items (binding frame.now) line false more (around slots.now left) rest) (state words.now slots.now left (K.taken out.new) (K.faults out.new)) }
+    ensures { (left : Input) (more : List plain.Item) (rest : Process) → Comes frame.now.program.now.texts (items (binding frame.now) line first (item_of item.now ∷ more) (around slots.now left) rest) (state words.now slots.now left (K.taken out.old) is_open.old (K.faults out.old)) result (items (binding frame.now) line false more (around slots.now left) rest) (state words.now slots.now left (K.taken out.new) is_open.new (K.faults out.new)) }
 {
     let texts = frame.program.texts.as_slice();
     match item {
-        Item::Text(number) => write(out, texts, first, Piece::Text(*number)),
+        Item::Text(number) => write(out, is_open, texts, first, Piece::Text(*number)),
         Item::Value(e) => {
             let v = value(frame, words, slots, line, e)?;
-            write(out, texts, first, Piece::Number(v))
+            write(out, is_open, texts, first, Piece::Number(v))
         }
     }
 }
@@ -133,18 +162,19 @@ pub fn print<K: Sink>(
     words: &[i64],
     slots: &[i64],
     out: &mut K,
+    is_open: &mut bool,
     line: u32,
     shown: &[Item],
 ) -> Result<(), Stop>
     requires sound { IsSound frame.now }
     requires room { length words.now ≡ frame.now.program.now.words }
     requires fits { All (λ i. ItemFits frame.now.program.now.objects (shapes_of frame.now) (length slots.now) (length frame.now.program.now.texts) (item_of i)) shown.now }
-    ensures { (left : Input) (rest : Process) → Comes frame.now.program.now.texts (items (binding frame.now) line true (map item_of shown.now) (around slots.now left) rest) (state words.now slots.now left (K.taken out.old) (K.faults out.old)) result rest (state words.now slots.now left (K.taken out.new) (K.faults out.new)) }
+    ensures { (left : Input) (rest : Process) → Comes frame.now.program.now.texts (items (binding frame.now) line true (map item_of shown.now) (around slots.now left) rest) (state words.now slots.now left (K.taken out.old) is_open.old (K.faults out.old)) result rest (state words.now slots.now left (K.taken out.new) is_open.new (K.faults out.new)) }
 {
     let mut first = true;
     for item in shown {
-        show(frame, words, slots, out, line, first, item)?;
+        show(frame, words, slots, out, is_open, line, first, item)?;
         first = false;
     }
-    say(out, frame.program.texts.as_slice(), Piece::LineEnd)
+    say(out, is_open, frame.program.texts.as_slice(), Piece::LineEnd)
 }

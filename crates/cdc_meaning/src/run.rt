@@ -2,11 +2,11 @@
 ghost use Rattle.std.specs.Prelude.{◌≡◌, ◌<◌, pos, length, replicate};
 ghost use Rattle.cdc_prog.specs.Translation.{program_of, stmts_of};
 ghost use Rattle.cdc_prog.specs.Units.{body_of};
-ghost use Rattle.cdc_prog.specs.Resolved.{IsResolved};
+ghost use Rattle.cdc_prog.specs.Resolved.{IsResolved, IsSerial};
 ghost use Rattle.cdc_prog.specs.Meaning.{meaning};
-ghost use Rattle.cdc_meaning.specs.Answers.{IsSerial, IsRun, HasPlainCause, answer_of};
+ghost use Rattle.cdc_meaning.specs.Answers.{IsRun, TellsLine, HasPlainCause, answer_of};
 
-use crate::exec::exec_all;
+use crate::exec::{Streams, exec_all};
 use crate::frame::Frame;
 use crate::print::Stop;
 use crate::read::Unread;
@@ -27,8 +27,40 @@ pub enum Plain {
     Memory,
 }
 
+/// How the run of a program ended, and whether the line that it printed last is open.
+#[derive(Clone, Copy, Debug, PartialEq, Eq)]
+pub struct Ran {
+    pub answer: Plain,
+    /// Bytes stand behind the last line end that was printed.
+    pub is_open: bool,
+}
+
 /// Carries out a program by the rules of the language, on one store, and writes its output as it
 /// comes. The program has no DOALL and no CALL. All memory is taken before the first byte is written.
+/// Where the sink did not fail and memory did not run out, the last line is told to be open exactly
+/// where all the output ends in bytes behind its last line end.
+pub fn run_lines<K: Sink>(
+    alloc: Global,
+    program: &Program,
+    records: &InputRecords,
+    out: &mut K,
+) -> Ran
+    requires resolved { IsResolved (program_of program.now) }
+    requires serial { IsSerial (program_of program.now) }
+    ensures run { IsRun (meaning (program_of program.now) records.now.records) (K.taken out.old) (K.taken out.new) result.answer }
+    ensures line { TellsLine (meaning (program_of program.now) records.now.records) result }
+    ensures cause { HasPlainCause (K.faults out.old) (K.faults out.new) result.answer }
+{
+    match vec![in alloc; 0; program.words as usize] {
+        Ok(mut words) => run_on(program, records.records.as_slice(), &mut words, out),
+        Err(_) => Ran {
+            answer: Plain::Memory,
+            is_open: false,
+        },
+    }
+}
+
+/// Carries out a program, as `run_lines` does, and answers how it ended.
 pub fn run_plain<K: Sink>(
     alloc: Global,
     program: &Program,
@@ -40,32 +72,39 @@ pub fn run_plain<K: Sink>(
     ensures run { IsRun (meaning (program_of program.now) records.now.records) (K.taken out.old) (K.taken out.new) result }
     ensures cause { HasPlainCause (K.faults out.old) (K.faults out.new) result }
 {
-    match vec![in alloc; 0; program.words as usize] {
-        Ok(mut words) => run_on(program, records.records.as_slice(), &mut words, out),
-        Err(_) => Plain::Memory,
-    }
+    run_lines(alloc, program, records, out).answer
 }
 
 // Carries out the main unit of a program on words of 0.
-fn run_on<K: Sink>(
-    program: &Program,
-    records: &[List<i64>],
-    words: &mut [i64],
-    out: &mut K,
-) -> Plain
+fn run_on<K: Sink>(program: &Program, records: &[List<i64>], words: &mut [i64], out: &mut K) -> Ran
     requires resolved { IsResolved (program_of program.now) }
     requires serial { IsSerial (program_of program.now) }
     requires zeros { words.old ≡ replicate program.now.words (pos 0) }
-    ensures run { IsRun (meaning (program_of program.now) records.now) (K.taken out.old) (K.taken out.new) result }
-    ensures cause { HasPlainCause (K.faults out.old) (K.faults out.new) result }
+    ensures run { IsRun (meaning (program_of program.now) records.now) (K.taken out.old) (K.taken out.new) result.answer }
+    ensures line { TellsLine (meaning (program_of program.now) records.now) result }
+    ensures cause { HasPlainCause (K.faults out.old) (K.faults out.new) result.answer }
 {
     let frame = Frame {
         program,
         dummies: &[],
         bound: &[],
     };
-    let mut unread = Unread::new(records);
-    answer(exec_all(&frame, words, &mut [], &mut unread, out, main_body(program)))
+    let mut streams = Streams {
+        unread: Unread::new(records),
+        is_open: false,
+    };
+    let end = exec_all(
+        &frame,
+        words,
+        &mut [],
+        &mut streams,
+        out,
+        main_body(program),
+    );
+    Ran {
+        answer: answer(end),
+        is_open: streams.is_open,
+    }
 }
 
 // The statements of the main unit.

@@ -1,12 +1,12 @@
 // Programs built by hand, their output and their end.
 ghost use Rattle.std.specs.Prelude.{◌≡◌, IfOk, [], ◌∷◌, map};
 ghost use Rattle.cdc_prog.specs.Plain as plain;
-ghost use Rattle.cdc_prog.specs.Resolved.{IsResolved};
+ghost use Rattle.cdc_prog.specs.Resolved.{IsResolved, IsSerial};
 ghost use Rattle.cdc_prog.specs.Translation.{expr_of, target_of, stmt_of, chain, program_of};
 ghost use Rattle.cdc_prog.specs.Examples.{ref, scalar, num, print, one, signs, largest, records};
-ghost use Rattle.cdc_meaning.specs.Answers.{IsSerial};
+ghost use Rattle.cdc_meaning.specs.Examples.{divided};
 
-use crate::{Plain, run_plain};
+use crate::{Plain, Ran, run_lines, run_plain};
 use cdc_base::{List, MemSink, NoMemory, Place};
 use cdc_input::InputRecords;
 use cdc_prog::{
@@ -208,26 +208,58 @@ fn reading(alloc: Global) -> Result<Program, NoMemory>
     program(alloc, body, objects, 4)
 }
 
+// PRINT *, 7, 1 / 0
+fn dividing(alloc: Global) -> Result<Program, NoMemory>
+    ensures { IfOk result (λ p. program_of p ≡ divided) }
+{
+    let quotient = bin(alloc, BinOp::Div, Expr::Number(1), Expr::Number(0))?;
+    let items = vec![in alloc; Item::Value(Expr::Number(7)), Item::Value(quotient)]?;
+    let shown = Stmt::Print {
+        line: 2,
+        items: List::of(items),
+    };
+    program(alloc, vec![in alloc; shown]?, vec![in alloc]?, 0)
+}
+
+fn input(alloc: Global) -> Result<InputRecords, NoMemory> {
+    let first = List::of(vec![in alloc; 1]?);
+    let second = List::of(vec![in alloc; 2, 99]?);
+    let third = List::of(vec![in alloc; 3, 4]?);
+    Ok(InputRecords {
+        records: List::of(vec![in alloc; first, second, third]?),
+    })
+}
+
+// An end whose last line is shut.
+fn shut(answer: Plain) -> Ran {
+    Ran {
+        answer,
+        is_open: false,
+    }
+}
+
+// An end whose last line is open.
+fn open(answer: Plain) -> Ran {
+    Ran {
+        answer,
+        is_open: true,
+    }
+}
+
 // Runs a program over a sink whose calls of these numbers fail.
 fn expect_run(
     rt: &impl Abort,
     alloc: Global,
     program: &Program,
     fail: Vec<u64>,
-    end: Plain,
+    end: Ran,
     bytes: &[u8],
 ) -> Result<(), Fail>
     requires resolved { IsResolved (program_of program.now) }
     requires serial { IsSerial (program_of program.now) }
 {
-    let first = List::of(vec![in alloc; 1]?);
-    let second = List::of(vec![in alloc; 2, 99]?);
-    let third = List::of(vec![in alloc; 3, 4]?);
-    let input = InputRecords {
-        records: List::of(vec![in alloc; first, second, third]?),
-    };
     let mut out = MemSink::new(alloc, 200, fail)?;
-    assert_eq!(rt; run_plain(alloc, program, &input, &mut out), end);
+    assert_eq!(rt; run_lines(alloc, program, &input(alloc)?, &mut out), end);
     assert_eq!(rt; out.bytes(), bytes);
     Ok(())
 }
@@ -236,14 +268,14 @@ fn expect_run(
 fn programs_run_to_their_ends(rt: HostRuntime) -> Result<(), Fail> {
     let alloc = rt.alloc();
     let one = sum(alloc)?;
-    expect_run(&rt, alloc, &one, vec![in alloc]?, Plain::Done, b"6\n")?;
+    expect_run(&rt, alloc, &one, vec![in alloc]?, shut(Plain::Done), b"6\n")?;
     let signs = arithmetic(alloc)?;
     expect_run(
         &rt,
         alloc,
         &signs,
         vec![in alloc]?,
-        Plain::Fault(FaultKind::Overflow, 5),
+        shut(Plain::Fault(FaultKind::Overflow, 5)),
         b"-1 -3 -3 -6\n-9223372036854775808\n",
     )?;
     expect_run(
@@ -251,7 +283,7 @@ fn programs_run_to_their_ends(rt: HostRuntime) -> Result<(), Fail> {
         alloc,
         &signs,
         vec![in alloc; 4]?,
-        Plain::SinkFault,
+        open(Plain::SinkFault),
         b"-1 -3",
     )?;
     let largest = counting(alloc)?;
@@ -260,7 +292,7 @@ fn programs_run_to_their_ends(rt: HostRuntime) -> Result<(), Fail> {
         alloc,
         &largest,
         vec![in alloc]?,
-        Plain::Fault(FaultKind::Overflow, 2),
+        shut(Plain::Fault(FaultKind::Overflow, 2)),
         b"9223372036854775806\n9223372036854775807\n",
     )?;
     let records = reading(alloc)?;
@@ -269,8 +301,30 @@ fn programs_run_to_their_ends(rt: HostRuntime) -> Result<(), Fail> {
         alloc,
         &records,
         vec![in alloc]?,
-        Plain::Fault(FaultKind::InputEnded, 5),
+        shut(Plain::Fault(FaultKind::InputEnded, 5)),
         b"1 2 3\n",
     )?;
+    let divided = dividing(alloc)?;
+    expect_run(
+        &rt,
+        alloc,
+        &divided,
+        vec![in alloc]?,
+        open(Plain::Fault(FaultKind::ZeroDivisor, 2)),
+        b"7",
+    )?;
+    Ok(())
+}
+
+#[test]
+fn an_answer_is_told_alone(rt: HostRuntime) -> Result<(), Fail> {
+    let alloc = rt.alloc();
+    let one = sum(alloc)?;
+    let mut out = MemSink::new(alloc, 200, vec![in alloc]?)?;
+    assert_eq!(rt;
+        run_plain(alloc, &one, &input(alloc)?, &mut out),
+        Plain::Done
+    );
+    assert_eq!(rt; out.bytes(), b"6\n".as_slice());
     Ok(())
 }

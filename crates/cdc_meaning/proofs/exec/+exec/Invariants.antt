@@ -17,21 +17,21 @@ invariant-exec_all-loop-statement g l = record {
   fits : StmtFits (program_of l.frame.program.now) (λ u. 0) 0 (shapes_of l.frame) (length l.slots) (stmts_of (drop l.statement-index l.statements));
   serial : HasOnly (Unit {0}) ⊥ ⊥ (stmts_of (drop l.statement-index l.statements));
   follows : (calls : ℕ → List ℕ → Runs) (rest : Surroundings → Process) → Follows l.frame.program.now.texts
-      (stmt calls (binding l.frame) (stmts_of l.statements) (around l.initial.slots (left_of l.initial.unread)) rest) (state l.initial.words l.initial.slots (left_of l.initial.unread) (g.K.Sink.taken l.initial.out) (g.K.Sink.faults l.initial.out))
-      (stmt calls (binding l.frame) (stmts_of (drop l.statement-index l.statements)) (around l.slots (left_of l.unread)) rest) (state l.words l.slots (left_of l.unread) (g.K.Sink.taken l.out) (g.K.Sink.faults l.out));
+      (stmt calls (binding l.frame) (stmts_of l.statements) (around l.initial.slots (left_of l.initial.streams.unread)) rest) (state l.initial.words l.initial.slots (left_of l.initial.streams.unread) (g.K.Sink.taken l.initial.out) l.initial.streams.is_open (g.K.Sink.faults l.initial.out))
+      (stmt calls (binding l.frame) (stmts_of (drop l.statement-index l.statements)) (around l.slots (left_of l.streams.unread)) rest) (state l.words l.slots (left_of l.streams.unread) (g.K.Sink.taken l.out) l.streams.is_open (g.K.Sink.faults l.out));
 }
 
 abbrev pub invariant-repeat-loop : goal.invariant-repeat-loop
 invariant-repeat-loop g l =
     (calls : ℕ → List ℕ → Runs) (rest : Surroundings → Process) → Follows l.frame.program.now.texts
-    (turns_left l.turns.count (binding l.frame) l.turns (stmt calls (binding l.frame) (stmts_of l.body)) (around l.initial.slots (left_of l.initial.unread)) rest) (state l.initial.words l.initial.slots (left_of l.initial.unread) (g.K.Sink.taken l.initial.out) (g.K.Sink.faults l.initial.out))
-    (turns_left (l.turns.count - l.counter) (binding l.frame) l.turns (stmt calls (binding l.frame) (stmts_of l.body)) (around l.slots (left_of l.unread)) rest) (state l.words l.slots (left_of l.unread) (g.K.Sink.taken l.out) (g.K.Sink.faults l.out))
+    (turns_left l.turns.count (binding l.frame) l.turns (stmt calls (binding l.frame) (stmts_of l.body)) (around l.initial.slots (left_of l.initial.streams.unread)) rest) (state l.initial.words l.initial.slots (left_of l.initial.streams.unread) (g.K.Sink.taken l.initial.out) l.initial.streams.is_open (g.K.Sink.faults l.initial.out))
+    (turns_left (l.turns.count - l.counter) (binding l.frame) l.turns (stmt calls (binding l.frame) (stmts_of l.body)) (around l.slots (left_of l.streams.unread)) rest) (state l.words l.slots (left_of l.streams.unread) (g.K.Sink.taken l.out) l.streams.is_open (g.K.Sink.faults l.out))
 
 abbrev pub invariant-exec-loop-arm : goal.invariant-exec-loop-arm
 invariant-exec-loop-arm g l = record {
   fits : StmtFits (program_of l.frame.program.now) (λ u. 0) 0 (shapes_of l.frame) (length l.slots) (arms_of (drop l.arm-index l.arm-items) (stmts_of l.other));
   serial : HasOnly (Unit {0}) ⊥ ⊥ (arms_of (drop l.arm-index l.arm-items) (stmts_of l.other));
   follows : (calls : ℕ → List ℕ → Runs) (rest : Surroundings → Process) → Follows l.frame.program.now.texts
-      (stmt calls (binding l.frame) (stmt_of l.statement) (around l.initial.slots (left_of l.initial.unread)) rest) (state l.initial.words l.initial.slots (left_of l.initial.unread) (g.K.Sink.taken l.initial.out) (g.K.Sink.faults l.initial.out))
-      (stmt calls (binding l.frame) (arms_of (drop l.arm-index l.arm-items) (stmts_of l.other)) (around l.slots (left_of l.unread)) rest) (state l.words l.slots (left_of l.unread) (g.K.Sink.taken l.out) (g.K.Sink.faults l.out));
+      (stmt calls (binding l.frame) (stmt_of l.statement) (around l.initial.slots (left_of l.initial.streams.unread)) rest) (state l.initial.words l.initial.slots (left_of l.initial.streams.unread) (g.K.Sink.taken l.initial.out) l.initial.streams.is_open (g.K.Sink.faults l.initial.out))
+      (stmt calls (binding l.frame) (arms_of (drop l.arm-index l.arm-items) (stmts_of l.other)) (around l.slots (left_of l.streams.unread)) rest) (state l.words l.slots (left_of l.streams.unread) (g.K.Sink.taken l.out) l.streams.is_open (g.K.Sink.faults l.out));
 }

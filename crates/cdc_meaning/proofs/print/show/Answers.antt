@@ -16,8 +16,8 @@ use Rattle.cdc_meaning.proofs.print.show.Goals as goal
 pub returns-in-Text : goal.returns-in-Text
 returns-in-Text g c = λ left more rest.
     let texts = c.args.frame.now.program.now.texts in
-    let x = state c.args.words.now c.args.slots.now left (g.K.Sink.taken c.args.out.now) (g.K.Sink.faults c.args.out.now) in
-    let y = state c.args.words.now c.args.slots.now left (g.K.Sink.taken c.write.new.out) (g.K.Sink.faults c.write.new.out) in
+    let x = state c.args.words.now c.args.slots.now left (g.K.Sink.taken c.args.out.now) c.args.is_open.now (g.K.Sink.faults c.args.out.now) in
+    let y = state c.args.words.now c.args.slots.now left (g.K.Sink.taken c.write.new.out) c.write.new.is_open (g.K.Sink.faults c.write.new.out) in
     let s = around c.args.slots.now left in
     let b = binding c.args.frame.now in
     let later = items b c.args.line false more s rest in
@@ -29,8 +29,8 @@ returns-in-Text g c = λ left more rest.
 pub returns-in_ok-v-in-Value : goal.returns-in_ok-v-in-Value
 returns-in_ok-v-in-Value g c = λ left more rest.
     let texts = c.args.frame.now.program.now.texts in
-    let x = state c.args.words.now c.args.slots.now left (g.K.Sink.taken c.args.out.now) (g.K.Sink.faults c.args.out.now) in
-    let y = state c.args.words.now c.args.slots.now left (g.K.Sink.taken c.write-in-Value.new.out) (g.K.Sink.faults c.write-in-Value.new.out) in
+    let x = state c.args.words.now c.args.slots.now left (g.K.Sink.taken c.args.out.now) c.args.is_open.now (g.K.Sink.faults c.args.out.now) in
+    let y = state c.args.words.now c.args.slots.now left (g.K.Sink.taken c.write-in-Value.new.out) c.write-in-Value.new.is_open (g.K.Sink.faults c.write-in-Value.new.out) in
     let s = around c.args.slots.now left in
     let b = binding c.args.frame.now in
     let later = items b c.args.line false more s rest in
@@ -47,7 +47,7 @@ pub returns-in_err-v-in-Value : goal.returns-in_err-v-in-Value
 returns-in_err-v-in-Value g c = λ left more rest.
     let r = err_from_is_err_and c.from_residual.result c.from_residual.ensures.1 in
     let texts = c.args.frame.now.program.now.texts in
-    let x = state c.args.words.now c.args.slots.now left (g.K.Sink.taken c.args.out.now) (g.K.Sink.faults c.args.out.now) in
+    let x = state c.args.words.now c.args.slots.now left (g.K.Sink.taken c.args.out.now) c.args.is_open.now (g.K.Sink.faults c.args.out.now) in
     let s = around c.args.slots.now left in
     let b = binding c.args.frame.now in
     let later = items b c.args.line false more s rest in
