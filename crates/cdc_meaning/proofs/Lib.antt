@@ -1,7 +1,7 @@
 mod InMemory
 mod Values
 mod Moves
-mod Opened
+pub mod Opened
 mod Comes
 mod Statements
 mod Answers
