@@ -1,4 +1,4 @@
--- An accepted program without DOALL keeps what a resolved program keeps.
+-- An accepted program without DOALL keeps what a resolved program keeps, and has no DOALL and no CALL.
 use Rattle.std.proofs.Common.{◌≡◌, ℕ, zero, suc, ◌+◌, ◌<◌, ◌≤◌, Bool, true, false, List, [], ◌∷◌, ◌++◌, map, length, Option, Some, None, Result, Ok, Err, refl, ap, sym, subst, ◌∙◌, arith, append_assoc}
 use Rattle.std.specs.Prelude.{if◌then◌else◌, nat_lt, is_some, slice_get, IfOk}
 use Rattle.std.specs.Str.{bytes_eq}
@@ -9,7 +9,7 @@ use Rattle.cdc_prog.specs.declared.program.Kind.TheVariants as kind
 use Rattle.cdc_prog.specs.declared.program.Program.{Program}
 use Rattle.cdc_prog.specs.Plain as plain
 use Rattle.cdc_prog.specs.Translation.{program_of}
-use Rattle.cdc_prog.specs.Resolved.{AreLaidOut, StmtFits, IsResolved}
+use Rattle.cdc_prog.specs.Resolved.{AreLaidOut, StmtFits, IsResolved, IsSerial}
 use Rattle.cdc_prog.specs.Units.{shapes_in, body_in}
 use Rattle.cdc_names.specs.declared.scope.Sort.{Sort}
 use Rattle.cdc_names.specs.declared.scope.Scope.{Scope}
@@ -39,6 +39,7 @@ use Rattle.cdc_check.specs.Statements.{nodes_in}
 use Rattle.cdc_check.specs.Units.{Whole, unit_in, units_from, nothing_yet, is_program, main_from}
 use Rattle.cdc_check.specs.Check.{names_refused, counts_refused, with_layout, finished, unless_refused, checked}
 use Rattle.cdc_check.proofs.Fitting as fitting
+use Rattle.cdc_check.proofs.Stating.{IsSerialStmt}
 use Rattle.cdc_check.proofs.Blocks as blocks
 use Rattle.cdc_check.proofs.Tables as tables
 use Rattle.cdc_check.proofs.Tables.{Grown, is_there, grown_by, declared_grown, implied_grown, same}
@@ -149,6 +150,7 @@ module _ (listed : List plain.ProgramUnit) (main : ℕ) (F : List Shape) (texts 
   record UnitDone (u : plain.ProgramUnit) : Type 0 where
     pub alone : u.dummies ≡ []
     pub fits : StmtFits p (λ v. 0) 0 [] 0 u.body
+    pub only : IsSerialStmt u.body
 
   record UnitEnds (k : Whole) (r : plain.ProgramUnit × Whole) : Type 0 where
     pub grows : length k.progress.texts ≤ length (r.1.progress.texts)
@@ -162,7 +164,7 @@ module _ (listed : List plain.ProgramUnit) (main : ℕ) (F : List Shape) (texts 
       let good : fitting.AllGood (laid_from 0 F) sorts names ((statement_uses u.head ++ statements_uses u.declarations) ++ nodes_uses u.body) = named_good F small number u k.objects rest e none in
       let body : fitting.AllGood (laid_from 0 F) sorts names (nodes_uses u.body) = fitting.good_right (laid_from 0 F) sorts names (statement_uses u.head ++ statements_uses u.declarations) (nodes_uses u.body) good in
       let ended : blocks.ListEnds p sorts names k.progress (nodes_in (surroundings names []) u.body k.progress) = blocks.nodes_end p sorts names u.body body serial k.progress in
-      record { grows = ended.grows; done = λ t. record { alone = refl; fits = ended.fits t } }
+      record { grows = ended.grows; done = λ t. record { alone = refl; fits = ended.fits t; only = ended.only } }
 
   abbrev EachDone : List plain.ProgramUnit → Type 0
   EachDone [] = Unit {0}
@@ -194,6 +196,11 @@ module _ (listed : List plain.ProgramUnit) (main : ℕ) (F : List Shape) (texts 
   fits_at [] d i = tt
   fits_at (u ∷ us) d zero = d.0.fits
   fits_at (u ∷ us) d (suc i) = fits_at us d.1 i
+
+  only_at : (us : List plain.ProgramUnit) → EachDone us → (i : ℕ) → IsSerialStmt (body_in (slice_get us i))
+  only_at [] d i = tt
+  only_at (u ∷ us) d zero = d.0.only
+  only_at (u ∷ us) d (suc i) = only_at us d.1 i
 
 -- ---- the main unit
 next_le : (k : ℕ) → next k ≤ k + 1
@@ -253,18 +260,40 @@ finish_passed main r q h = go (nat_lt 1024 (length (r.1.objects))) refl (nat_lt 
         last false h = record { few = not_more 1024 (length (r.1.objects)) e; small = not_more 4194304 (words_of (r.1.objects)) f; is = cc }
 
 -- ---- the law
+
+-- what units resolve to
+abbrev resolved_from : List UnitText → List plain.ProgramUnit × Whole
+resolved_from us = each (units_from 0 us (map scope_of us)) nothing_yet
+
+abbrev program_from : List UnitText → plain.Program
+program_from us = program_of_parts (main_from 0 us) ((resolved_from us).0) ((resolved_from us).1)
+
+abbrev AllDone : (us : List UnitText) → length ((resolved_from us).1.objects) ≤ 1024 → Type 0
+AllDone us few =
+    EachDone ((resolved_from us).0) (main_from 0 us) ((resolved_from us).1.objects) ((resolved_from us).1.progress.texts) ((resolved_from us).1.progress.sites) ((resolved_from us).1.progress.doalls) (words_of ((resolved_from us).1.objects)) few ((resolved_from us).0)
+
+all_done : (us : List UnitText) → EachNone shape_in (map scope_of us) → slot_lists us ≡ [] → (few : length ((resolved_from us).1.objects) ≤ 1024) → AllDone us few
+all_done us none serial few =
+    let r : List plain.ProgramUnit × Whole = resolved_from us in
+    let F : List Shape = r.1.objects in
+    let w : Progress = r.1.progress in
+    let ended : UnitsEnd r.0 (main_from 0 us) F w.texts w.sites w.doalls (words_of F) few nothing_yet r = units_end r.0 (main_from 0 us) F w.texts w.sites w.doalls (words_of F) few us 0 nothing_yet [] (whole_list F) none serial in
+    ended.done (omega arith)
+  where
+    whole_list : (xs : List Shape) → xs ≡ xs ++ []
+    whole_list [] = refl
+    whole_list (x ∷ xs) = ap (λ l. x ∷ l) (whole_list xs)
+
 resolved_parts : (us : List UnitText) → EachNone shape_in (map scope_of us) → slot_lists us ≡ [] → 0 < length us
-    → length ((each (units_from 0 us (map scope_of us)) nothing_yet).1.objects) ≤ 1024 → words_of ((each (units_from 0 us (map scope_of us)) nothing_yet).1.objects) ≤ 4194304
-    → IsResolved (program_of_parts (main_from 0 us) ((each (units_from 0 us (map scope_of us)) nothing_yet).0) ((each (units_from 0 us (map scope_of us)) nothing_yet).1))
+    → length ((resolved_from us).1.objects) ≤ 1024 → words_of ((resolved_from us).1.objects) ≤ 4194304 → IsResolved (program_from us)
 resolved_parts us none serial some few small =
-    let r : List plain.ProgramUnit × Whole = each (units_from 0 us (map scope_of us)) nothing_yet in
+    let r : List plain.ProgramUnit × Whole = resolved_from us in
     let F : List Shape = r.1.objects in
     let w : Progress = r.1.progress in
     let fine : AllFine F = units_fine us 0 nothing_yet none tt in
     let count : length r.0 ≡ length us = units_length us 0 nothing_yet in
     let zero_more : 0 + words_of F ≡ words_of F = omega arith in
-    let ended : UnitsEnd r.0 (main_from 0 us) F w.texts w.sites w.doalls (words_of F) few nothing_yet r = units_end r.0 (main_from 0 us) F w.texts w.sites w.doalls (words_of F) few us 0 nothing_yet [] (whole_list F) none serial in
-    let done : EachDone r.0 (main_from 0 us) F w.texts w.sites w.doalls (words_of F) few r.0 = ended.done (omega arith) in
+    let done : AllDone us few = all_done us none serial few in
     record {
       laid_out = subst (AreLaidOut 0 (laid_from 0 F)) zero_more (laid_out 0 F fine);
       shaped = all_shaped 0 F fine;
@@ -273,26 +302,44 @@ resolved_parts us none serial some few small =
       main_alone = alone_at r.0 (main_from 0 us) F w.texts w.sites w.doalls (words_of F) few r.0 done (main_from 0 us);
       ranks = λ u. 0;
       ranked = λ u l. omega arith;
-      fits = λ u l. subst (λ shapes. StmtFits (program_of_parts (main_from 0 us) r.0 r.1) (λ v. 0) 0 shapes 0 (body_in (slice_get r.0 u)))
+      fits = λ u l. subst (λ shapes. StmtFits (program_from us) (λ v. 0) 0 shapes 0 (body_in (slice_get r.0 u)))
           (sym (alone_at r.0 (main_from 0 us) F w.texts w.sites w.doalls (words_of F) few r.0 done u))
           (fits_at r.0 (main_from 0 us) F w.texts w.sites w.doalls (words_of F) few r.0 done u);
     }
-  where
-    whole_list : (xs : List Shape) → xs ≡ xs ++ []
-    whole_list [] = refl
-    whole_list (x ∷ xs) = ap (λ l. x ∷ l) (whole_list xs)
 
-pub accepted_is_resolved : (us : List UnitText) (q : plain.Program) → checked us ≡ Ok q → slot_lists us ≡ [] → 0 < length us → IsResolved q
-accepted_is_resolved us q h serial some =
+serial_parts : (us : List UnitText) → EachNone shape_in (map scope_of us) → slot_lists us ≡ [] → length ((resolved_from us).1.objects) ≤ 1024 → IsSerial (program_from us)
+serial_parts us none serial few u =
+    let r : List plain.ProgramUnit × Whole = resolved_from us in
+    let w : Progress = r.1.progress in
+    only_at r.0 (main_from 0 us) r.1.objects w.texts w.sites w.doalls (words_of r.1.objects) few r.0 (all_done us none serial few) u
+
+record Accepted (us : List UnitText) (q : plain.Program) : Type 0 where
+  pub none : EachNone shape_in (map scope_of us)
+  pub passed : Passed (main_from 0 us) (resolved_from us) q
+
+accepted : (us : List UnitText) (q : plain.Program) → checked us ≡ Ok q → Accepted us q
+accepted us q h =
     let ss : List Scope = map scope_of us in
-    let r : List plain.ProgramUnit × Whole = each (units_from 0 us ss) nothing_yet in
+    let r : List plain.ProgramUnit × Whole = resolved_from us in
     let a : (names_refused us ss ≡ None) × (unless_refused (counts_refused us) (finished (main_from 0 us) r) ≡ Ok q) = unless_none (names_refused us ss) (unless_refused (counts_refused us) (finished (main_from 0 us) r)) q h in
     let b : (counts_refused us ≡ None) × (finished (main_from 0 us) r ≡ Ok q) = unless_none (counts_refused us) (finished (main_from 0 us) r) q a.1 in
-    let passed : Passed (main_from 0 us) r q = finish_passed (main_from 0 us) r q b.1 in
-    let none : EachNone shape_in ss = none_first shape_in ss (shapes_none us ss a.0) in
-    subst IsResolved passed.is (resolved_parts us none serial some passed.few passed.small)
+    record { none = none_first shape_in ss (shapes_none us ss a.0); passed = finish_passed (main_from 0 us) r q b.1 }
+
+accepted_is_resolved : (us : List UnitText) (q : plain.Program) → checked us ≡ Ok q → slot_lists us ≡ [] → 0 < length us → IsResolved q
+accepted_is_resolved us q h serial some =
+    let a : Accepted us q = accepted us q h in
+    subst IsResolved a.passed.is (resolved_parts us a.none serial some a.passed.few a.passed.small)
+
+accepted_is_serial : (us : List UnitText) (q : plain.Program) → checked us ≡ Ok q → slot_lists us ≡ [] → IsSerial q
+accepted_is_serial us q h serial =
+    let a : Accepted us q = accepted us q h in
+    subst IsSerial a.passed.is (serial_parts us a.none serial a.passed.few)
 
 -- the same of the answer of a call
 pub answers_resolved : (us : List UnitText) (r : Result Program CheckRefusal) → Answers program_of r (checked us) → slot_lists us ≡ [] → 0 < length us → IfOk r (λ program. IsResolved (program_of program))
 answers_resolved us (Ok program) h = accepted_is_resolved us (program_of program) h
 answers_resolved us (Err e) h = λ serial some. tt
+
+pub answers_serial : (us : List UnitText) (r : Result Program CheckRefusal) → Answers program_of r (checked us) → slot_lists us ≡ [] → IfOk r (λ program. IsSerial (program_of program))
+answers_serial us (Ok program) h = accepted_is_serial us (program_of program) h
+answers_serial us (Err e) h = λ serial. tt

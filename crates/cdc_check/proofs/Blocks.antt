@@ -1,4 +1,4 @@
--- What constructs resolve to fits, where each use in them fits its declaration and there is no DOALL.
+-- What constructs resolve to fits, where each use in them fits its declaration and there is no DOALL; and it has no DOALL and no CALL.
 use Rattle.std.proofs.Common.{◌≡◌, ℕ, ◌≤◌, List, [], ◌∷◌, ◌++◌, map, length, Option, Some, None, refl, sym, subst, ◌∙◌, arith}
 use Rattle.cdc_prog.specs.Plain as plain
 use Rattle.cdc_prog.specs.Translation.{chain, in_arms}
@@ -28,6 +28,7 @@ use Rattle.cdc_check.proofs.Forms as forms
 use Rattle.cdc_check.proofs.Nodes as nodes
 use Rattle.cdc_check.proofs.Nodes.{branch_of}
 use Rattle.cdc_check.proofs.Stating as stating
+use Rattle.cdc_check.proofs.Stating.{IsSerialStmt}
 
 nil_left : {A : Type 0} (xs ys : List A) → xs ++ ys ≡ [] → xs ≡ []
 nil_left [] ys h = refl
@@ -36,6 +37,15 @@ nil_left (x ∷ xs) ys h = cc
 nil_right : {A : Type 0} (xs ys : List A) → xs ++ ys ≡ [] → ys ≡ []
 nil_right [] ys h = h
 nil_right (x ∷ xs) ys h = cc
+
+-- where P holds of the other part, it holds with each arm before it
+abbrev EachKeeps : (plain.Stmt → Type 0) → List (plain.Stmt → plain.Stmt) → Type 0
+EachKeeps P [] = Unit {0}
+EachKeeps P (a ∷ rest) = ((o : plain.Stmt) → P o → P (a o)) × EachKeeps P rest
+
+arms_keep : (P : plain.Stmt → Type 0) (arms : List (plain.Stmt → plain.Stmt)) (o : plain.Stmt) → EachKeeps P arms → P o → P (in_arms arms o)
+arms_keep P [] o e f = f
+arms_keep P (a ∷ more) o e f = e.0 (in_arms more o) (arms_keep P more o e.1 f)
 
 abbrev Resolves : Type 0
 Resolves = Surroundings → Progress → plain.Stmt × Progress
@@ -62,22 +72,17 @@ module _ (p : plain.Program) (sorts : List (List ℕ × Sort)) (names : List (Li
   pub record ListEnds (k : Progress) (r : List plain.Stmt × Progress) : Type 0 where
     pub grows : length k.texts ≤ length (r.1.texts)
     pub fits : length (r.1.texts) ≤ length p.texts → Fits (chain r.0)
+    pub only : IsSerialStmt (chain r.0)
 
   record ArmEnds (k : Progress) (r : (plain.Stmt → plain.Stmt) × Progress) : Type 0 where
     pub grows : length k.texts ≤ length (r.1.texts)
     pub fits : length (r.1.texts) ≤ length p.texts → (o : plain.Stmt) → Fits o → Fits (r.0 o)
-
-  abbrev EachArm : List (plain.Stmt → plain.Stmt) → Type 0
-  EachArm [] = Unit {0}
-  EachArm (a ∷ rest) = ((o : plain.Stmt) → Fits o → Fits (a o)) × EachArm rest
+    pub only : (o : plain.Stmt) → IsSerialStmt o → IsSerialStmt (r.0 o)
 
   record ArmsEnd (k : Progress) (r : List (plain.Stmt → plain.Stmt) × Progress) : Type 0 where
     pub grows : length k.texts ≤ length (r.1.texts)
-    pub fits : length (r.1.texts) ≤ length p.texts → EachArm r.0
-
-  in_arms_fits : (arms : List (plain.Stmt → plain.Stmt)) (o : plain.Stmt) → EachArm arms → Fits o → Fits (in_arms arms o)
-  in_arms_fits [] o e f = f
-  in_arms_fits (a ∷ more) o e f = e.0 (in_arms more o) (in_arms_fits more o e.1 f)
+    pub fits : length (r.1.texts) ≤ length p.texts → EachKeeps Fits r.0
+    pub only : EachKeeps IsSerialStmt r.0
 
   -- ---- controls and conditions
   step_fits : (by : Option Tree) → AllGood (optional_uses by) → (k : ℕ) → ExprFits p.objects [] 0 ((step_expr s by k).0)
@@ -107,6 +112,7 @@ module _ (p : plain.Program) (sorts : List (List ℕ × Sort)) (names : List (Li
         grows = inner.grows;
         fits = λ t.
             (controls_fit line l h.1 k.sites, stating.counted_fits p sorts names l.var h.0, refl, refl, inner.fits t);
+        only = inner.only;
       }
 
   loop_ends : (f : Form) (line : ℕ) (body : List Resolves) → AllGood (form_uses f) → slot_names f ≡ [] → ((k : Progress) → ListEnds k (body_in s body k)) → (k : Progress) → Ends k (looped line f body s k)
@@ -119,7 +125,11 @@ module _ (p : plain.Program) (sorts : List (List ℕ × Sort)) (names : List (Li
   arm_ends h body g ended k =
       let start : Progress = at_site ((condition h.form s k.sites).1) k in
       let inner : ListEnds start (body_in s body start) = ended start in
-      record { grows = inner.grows; fits = λ t o f. (condition_fits h.form (subst AllGood (forms.uses_statement h) g) k.sites, inner.fits t, f) }
+      record {
+        grows = inner.grows;
+        fits = λ t o f. (condition_fits h.form (subst AllGood (forms.uses_statement h) g) k.sites, inner.fits t, f);
+        only = λ o f. (inner.only, f);
+      }
 
   if_ends : (parts : List Part) (last : Option Part) → ((k : Progress) → ArmsEnd k (arms s parts k)) → ((k : Progress) → Ends k (other s last k)) → (k : Progress)
       → Ends k (on (arms s parts k) (λ first m. on (other s last m) (λ rest m. (plain.If (in_arms first rest), m))))
@@ -129,10 +139,14 @@ module _ (p : plain.Program) (sorts : List (List ℕ × Sort)) (names : List (Li
       let second : Ends m (other s last m) = rest m in
       let low : length k.texts ≤ length m.texts = first.grows in
       let high : length m.texts ≤ length ((other s last m).1.texts) = second.grows in
-      record { grows = omega arith; fits = λ t. in_arms_fits ((arms s parts k).0) ((other s last m).0) (first.fits (omega arith)) (second.fits t) }
+      record {
+        grows = omega arith;
+        fits = λ t. arms_keep Fits ((arms s parts k).0) ((other s last m).0) (first.fits (omega arith)) (second.fits t);
+        only = arms_keep IsSerialStmt ((arms s parts k).0) ((other s last m).0) first.only second.only;
+      }
 
   last_ends : (q : Statement) (body : List Resolves) → ((m : Progress) → ListEnds m (body_in s body m)) → (m : Progress) → Ends m (other s (Some (record { head = q; body = body })) m)
-  last_ends q body ended m = let inner : ListEnds m (body_in s body m) = ended m in record { grows = inner.grows; fits = inner.fits }
+  last_ends q body ended m = let inner : ListEnds m (body_in s body m) = ended m in record { grows = inner.grows; fits = inner.fits; only = inner.only }
 
   -- ---- nodes
   mutual
@@ -153,7 +167,7 @@ module _ (p : plain.Program) (sorts : List (List ℕ × Sort)) (names : List (Li
         let h : AllGood (branches_uses bs ++ []) = subst AllGood (nodes.at_if_else (List Used) (List Used) uses.node_node uses.branch_node c row end) g in
         let f : branches_lists bs ++ [] ≡ [] = sym (nodes.at_if_else (List (List Named)) (List (List Named)) lists.node_step lists.branch_step c row end) ∙ e in
         subst (λ (r : Resolves). Ends k (r s k)) (sym (nodes.at_if_else Resolves Part node_step branch_step c row end))
-        (if_ends (map parted bs) None (arms_end row (left (branches_uses bs) [] h) (nil_left (branches_lists bs) [] f)) (λ m. record { grows = omega arith; fits = λ t. tt }) k)
+        (if_ends (map parted bs) None (arms_end row (left (branches_uses bs) [] h) (nil_left (branches_lists bs) [] f)) (λ m. record { grows = omega arith; fits = λ t. tt; only = tt }) k)
     node_ends (If' c row (Some' q d body) end) g e k =
         let bs : List Branch = items-the_row-Branch _ row in
         let b : Branch = branch_of q d body in
@@ -167,7 +181,7 @@ module _ (p : plain.Program) (sorts : List (List ℕ × Sort)) (names : List (Li
         (subst (λ (part : Part). (m : Progress) → Ends m (other s (Some part) m)) (sym (nodes.at_branch Resolves Part node_step branch_step b)) (last_ends q (map noded ns) (row_ends body (right (statement_uses q) (nodes_uses ns) u) v))) k)
 
     pub row_ends : {c : _} (row : Row_of-Node c) → AllGood (nodes_uses (items-the_row-Node c row)) → nodes_lists (items-the_row-Node c row) ≡ [] → (k : Progress) → ListEnds k (nodes_in s (items-the_row-Node c row) k)
-    row_ends end_of-Node g e k = record { grows = omega arith; fits = λ t. tt }
+    row_ends end_of-Node g e k = record { grows = omega arith; fits = λ t. tt; only = tt }
     row_ends (more_of-Node n rest) g e k =
         let ns : List Node = items-the_row-Node _ rest in
         let one : Ends k (noded n s k) = node_ends n (left (node_uses n) (nodes_uses ns) g) (nil_left (node_lists n) (nodes_lists ns) e) k in
@@ -175,10 +189,10 @@ module _ (p : plain.Program) (sorts : List (List ℕ × Sort)) (names : List (Li
         let more : ListEnds m (nodes_in s ns m) = row_ends rest (right (node_uses n) (nodes_uses ns) g) (nil_right (node_lists n) (nodes_lists ns) e) m in
         let low : length k.texts ≤ length m.texts = one.grows in
         let high : length m.texts ≤ length ((nodes_in s ns m).1.texts) = more.grows in
-        record { grows = omega arith; fits = λ t. (one.fits (omega arith), more.fits t) }
+        record { grows = omega arith; fits = λ t. (one.fits (omega arith), more.fits t); only = (one.only, more.only) }
 
     arms_end : {c : _} (row : Row_of-Branch c) → AllGood (branches_uses (items-the_row-Branch c row)) → branches_lists (items-the_row-Branch c row) ≡ [] → (k : Progress) → ArmsEnd k (branches_in s (items-the_row-Branch c row) k)
-    arms_end end_of-Branch g e k = record { grows = omega arith; fits = λ t. tt }
+    arms_end end_of-Branch g e k = record { grows = omega arith; fits = λ t. tt; only = tt }
     arms_end (more_of-Branch q d body rest) g e k =
         let bs : List Branch = items-the_row-Branch _ rest in
         let b : Branch = branch_of q d body in
@@ -195,14 +209,14 @@ module _ (p : plain.Program) (sorts : List (List ℕ × Sort)) (names : List (Li
         let low : length k.texts ≤ length m.texts = one.grows in
         let high : length m.texts ≤ length ((branches_in s bs m).1.texts) = more.grows in
         subst (λ l. ArmsEnd k (branches_in s l k)) (sym (nodes.items_more q d body rest))
-        (record { grows = omega arith; fits = λ t. (one.fits (omega arith), more.fits t) })
+        (record { grows = omega arith; fits = λ t. (one.fits (omega arith), more.fits t); only = (one.only, more.only) })
 
   pub nodes_end : (ns : List Node) → AllGood (nodes_uses ns) → nodes_lists ns ≡ [] → (k : Progress) → ListEnds k (nodes_in s ns k)
-  nodes_end [] g e k = record { grows = omega arith; fits = λ t. tt }
+  nodes_end [] g e k = record { grows = omega arith; fits = λ t. tt; only = tt }
   nodes_end (n ∷ ns) g e k =
       let one : Ends k (noded n s k) = node_ends n (left (node_uses n) (nodes_uses ns) g) (nil_left (node_lists n) (nodes_lists ns) e) k in
       let m : Progress = (noded n s k).1 in
       let more : ListEnds m (nodes_in s ns m) = nodes_end ns (right (node_uses n) (nodes_uses ns) g) (nil_right (node_lists n) (nodes_lists ns) e) m in
       let low : length k.texts ≤ length m.texts = one.grows in
       let high : length m.texts ≤ length ((nodes_in s ns m).1.texts) = more.grows in
-      record { grows = omega arith; fits = λ t. (one.fits (omega arith), more.fits t) }
+      record { grows = omega arith; fits = λ t. (one.fits (omega arith), more.fits t); only = (one.only, more.only) }

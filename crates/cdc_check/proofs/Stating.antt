@@ -1,4 +1,4 @@
--- What statements resolve to fits, where each use in them is of a name that is known and fits its declaration.
+-- What statements resolve to fits, where each use in them is of a name that is known and fits its declaration; and it has no DOALL and no CALL.
 use Rattle.std.proofs.Common.{◌≡◌, ℕ, zero, suc, ◌+◌, ◌≤◌, Bool, true, false, List, [], ◌∷◌, ◌++◌, map, length, Option, Some, None, refl, sym, subst, ◌∙◌, arith}
 use Rattle.std.specs.Prelude.{nat_eq, not, ◌||◌, ◌&&◌, slice_get}
 use Rattle.std.specs.List.{All}
@@ -6,6 +6,7 @@ use Rattle.std.proofs.lemmas.List.{length-append}
 use Rattle.cdc_prog.specs.declared.expr.Var.TheVariants.{Object, Dummy, Slot}
 use Rattle.cdc_prog.specs.Plain as plain
 use Rattle.cdc_prog.specs.Translation.{listed}
+use Rattle.cdc_prog.specs.Bodies.{HasOnly}
 use Rattle.cdc_prog.specs.Data.{dims_in}
 use Rattle.cdc_prog.specs.Resolved.{IsScalar, SpotFits, TargetFits, ItemFits, StmtFits}
 use Rattle.cdc_parse.specs.declared.tree.Named.{Named}
@@ -49,6 +50,10 @@ changed_rank None r n w d h = sym (none_there n h)
 changed_rank (Some Scalar) r n w d h = sym (none_there n h)
 changed_rank (Some (Array m)) r n w d h = sym (same_rank n m (subst (λ b. (not (nat_eq n m) && not (b && nat_eq n 0)) ≡ false) w h))
 changed_rank (Some Parameter) r n w d h = absurd (or_true (not (nat_eq n 0)) (subst (λ b. (not (nat_eq n 0) || not b) ≡ false) d h))
+
+-- a statement without DOALL and CALL
+abbrev pub IsSerialStmt : plain.Stmt → Type 0
+IsSerialStmt = HasOnly (Unit {0}) ⊥ ⊥
 
 module _ (p : plain.Program) (sorts : List (List ℕ × Sort)) (names : List (List ℕ × Meaning)) where
   abbrev s : Surroundings
@@ -141,9 +146,10 @@ module _ (p : plain.Program) (sorts : List (List ℕ × Sort)) (names : List (Li
   pub record Ends (k : Progress) (r : plain.Stmt × Progress) : Type 0 where
     pub grows : length k.texts ≤ length (r.1.texts)
     pub fits : length (r.1.texts) ≤ length p.texts → Fits (r.0)
+    pub only : IsSerialStmt r.0
 
   pub nothing_ends : (k : Progress) → Ends k (plain.If plain.Skip, k)
-  nothing_ends k = record { grows = omega arith; fits = λ h. tt }
+  nothing_ends k = record { grows = omega arith; fits = λ h. tt; only = tt }
 
   pub form_ends : (f : Form) → AllGood (form_uses f) → (line : ℕ) (k : Progress) → Ends k (formed f line s k)
   form_ends (Assign spot value) g line k =
@@ -156,6 +162,7 @@ module _ (p : plain.Program) (sorts : List (List ℕ × Sort)) (names : List (Li
           spot_fits role.Assigned spot refl refl (fitting.good_left p.objects sorts names (spot_uses role.Assigned spot) (tree_uses value) h) k.sites,
           fitting.tree_fits p.objects sorts names value (fitting.good_right p.objects sorts names (spot_uses role.Assigned spot) (tree_uses value) h) n,
         );
+        only = tt;
       })
   form_ends (LogicalIf' cond q place f) g line k =
       let h : AllGood (tree_uses cond ++ form_uses f) = subst AllGood (forms.uses_logical cond q place f) g in
@@ -166,14 +173,15 @@ module _ (p : plain.Program) (sorts : List (List ℕ × Sort)) (names : List (Li
         grows = inner.grows;
         fits = λ t.
             (fitting.tree_fits p.objects sorts names cond (fitting.good_left p.objects sorts names (tree_uses cond) (form_uses f) h) k.sites, (inner.fits t, tt), tt);
+        only = ((inner.only, tt), tt);
       })
   form_ends (Print shs) g line k =
       let ended : ItemsEnd k (items s shs k) = items_end shs (subst AllGood (forms.uses_print shs) g) k in
       subst (Ends k) (sym (forms.formed_print line s k shs))
-      (record { grows = ended.grows; fits = λ t. all_from (ItemFits p.objects [] 0 (length p.texts)) ((items s shs k).0) (ended.fits t) })
+      (record { grows = ended.grows; fits = λ t. all_from (ItemFits p.objects [] 0 (length p.texts)) ((items s shs k).0) (ended.fits t); only = tt })
   form_ends (Read spots) g line k =
       subst (Ends k) (sym (forms.formed_read line s k spots))
-      (record { grows = omega arith; fits = λ t. all_from (TargetFits p.objects [] 0) ((targets s spots k.sites).0) (targets_fit spots (subst AllGood (forms.uses_read spots) g) k.sites) })
+      (record { grows = omega arith; fits = λ t. all_from (TargetFits p.objects [] 0) ((targets s spots k.sites).0) (targets_fit spots (subst AllGood (forms.uses_read spots) g) k.sites); only = tt })
   form_ends (Program n) g line k = subst (Ends k) (sym (forms.formed_program line s k n)) (nothing_ends k)
   form_ends (Subroutine n ds) g line k = subst (Ends k) (sym (forms.formed_subroutine line s k n ds)) (nothing_ends k)
   form_ends (End e) g line k = subst (Ends k) (sym (forms.formed_end line s k e)) (nothing_ends k)

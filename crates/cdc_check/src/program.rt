@@ -1,5 +1,5 @@
 ghost use Rattle.std.specs.Prelude.{◌≡◌, ◌<◌, [], map, length, IfOk};
-ghost use Rattle.cdc_prog.specs.Resolved.{IsResolved};
+ghost use Rattle.cdc_prog.specs.Resolved.{IsResolved, IsSerial};
 ghost use Rattle.cdc_names.specs.Duplicates.{slot_lists};
 ghost use Rattle.cdc_prog.specs.Translation.{program_of, unit_of};
 ghost use Rattle.cdc_check.specs.Units.{whole};
@@ -70,8 +70,9 @@ fn program(alloc: Global, units: &[UnitText]) -> Result<Program, CheckRefusal>
 pub fn check(alloc: Global, units: &List<UnitText>) -> Result<Program, CheckRefusal>
     ensures answer { Answers program_of result (checked units.now) }
 
-    // Without DOALL loops each access of an accepted program lies in its memory.
+    // Without DOALL loops each access of an accepted program lies in its memory, and it forks and calls nowhere.
     ensures resolved { slot_lists units.now ≡ [] → 0 < length units.now → IfOk result (λ p. IsResolved (program_of p)) }
+    ensures serial { slot_lists units.now ≡ [] → IfOk result (λ p. IsSerial (program_of p)) }
 {
     program(alloc, units.as_slice())
 }
