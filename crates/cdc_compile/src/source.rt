@@ -2,6 +2,7 @@
 
 ghost use Rattle.std.specs.Prelude.{Err, IfOk, IfErr};
 ghost use Rattle.std.specs.Result.{result_map_both};
+ghost use Rattle.cdc_prog.specs.Resolved.{IsResolved, IsSerial};
 ghost use Rattle.cdc_prog.specs.Translation.{program_of};
 ghost use Rattle.cdc_compile.specs.Source.{HasLines, HasStatements, HasBuiltUnits, IsProgramOf};
 
@@ -54,7 +55,11 @@ fn units_of(alloc: Global, source: &[u8]) -> Result<List<UnitText>, Refusal>
 /// then `NotAStatement` at the least line of a DOALL, SUBROUTINE or CALL, which are not built yet; then those of the check.
 /// `Memory` may come at any time.
 pub fn program(alloc: Global, source: &[u8]) -> Result<Program, Refusal>
-    ensures { IsProgramOf source.now (result_map_both program_of (λ refusal. refusal) result) }
+    ensures answer { IsProgramOf source.now (result_map_both program_of (λ refusal. refusal) result) }
+
+    // What is accepted has no DOALL and no CALL yet, and each of its accesses lies in its memory.
+    ensures resolved { IfOk result (λ p. IsResolved (program_of p)) }
+    ensures serial { IfOk result (λ p. IsSerial (program_of p)) }
 {
     let units = units_of(alloc, source)?;
     Ok(check(alloc, &units)?)
