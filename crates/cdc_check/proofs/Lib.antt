@@ -9,3 +9,5 @@ pub mod Blocks
 pub mod Tables
 pub mod Extents
 pub mod Accepted
+pub mod AlikeStatements
+pub mod Alike

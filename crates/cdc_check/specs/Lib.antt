@@ -7,3 +7,4 @@ pub mod Layout
 pub mod Refusals
 pub mod Units
 pub mod Check
+pub mod Laws

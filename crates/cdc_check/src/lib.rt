@@ -4,6 +4,7 @@
 mod constructs;
 mod copies;
 mod expressions;
+mod laws;
 mod layout;
 mod meaning;
 mod objects;
@@ -14,5 +15,6 @@ mod refuse;
 mod simple;
 mod units;
 
+pub use laws::pointerless;
 pub use program::check;
 pub use refusal::CheckRefusal;

@@ -11,5 +11,6 @@ pub mod Depth
 pub mod Lines
 pub mod Roles
 pub mod Units
+pub mod Bare
 pub mod Nesting
 pub mod Grammar

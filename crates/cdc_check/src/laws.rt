@@ -1,0 +1,8 @@
+//! What holds of the answer for units.
+
+ghost use Rattle.cdc_check.specs.Laws.{DependsOnBareUnits};
+
+/// What is answered for units depends on the units without pointers alone.
+pub fn pointerless()
+    ensures { DependsOnBareUnits }
+{}
