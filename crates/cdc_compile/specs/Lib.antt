@@ -3,3 +3,4 @@ pub mod Refusals
 pub mod Texts
 pub mod Unbuilt
 pub mod Source
+pub mod Laws

@@ -2,6 +2,7 @@
 #![tactic(auto)]
 
 mod accepted;
+mod laws;
 mod limits;
 mod refusal;
 mod refused;
@@ -11,6 +12,7 @@ mod tests;
 mod unbuilt;
 
 pub use accepted::write_accepted;
+pub use laws::one_answer;
 pub use refusal::Refusal;
 pub use refused::write_refusal;
 pub use source::program;
