@@ -1,28 +1,25 @@
 -- A source that is run is answered.
-use Rattle.std.proofs.Common.{◌≡◌, ℕ, List, [], ◌∷◌, length, refl, sym, ◌∙◌, ap, subst, true, false, Bool, if◌then◌else◌, Bor}
-use Rattle.std.specs.Prelude.{not, Option}
+use Rattle.std.proofs.Common.{◌≡◌, ℕ, List, [], ◌∷◌, length, refl, sym, ◌∙◌, ap, subst, Bool, if◌then◌else◌, Bor}
+use Rattle.std.specs.Prelude.{Option}
 use Rattle.std.proofs.lemmas.List.{length-map}
 use Rattle.cdc_base.specs.Outside.{grown}
 use Rattle.cdc_base.specs.Causes.{Rose}
 use Rattle.cdc_code.specs.declared.instr.Step.{Step}
-use Rattle.cdc_top.specs.Answer.{Answer, Said, ran}
+use Rattle.cdc_prog.specs.Lines.{is_open}
+use Rattle.cdc_top.specs.Answer.{Said, ran}
 use Rattle.cdc_top.specs.Code.{names, code_in, code_of}
 use Rattle.cdc_top.specs.Machine.{Machine, State, play, run, start, opening}
 use Rattle.cdc_top.specs.Named.{texts}
 use Rattle.cdc_text.specs.Pieces.{GrewByFront}
 use Rattle.cdc_top.specs.Replay.{Runs, fresh}
-use Rattle.cdc_top.specs.Report.{ends_line, line_end, printed, outcome_of, status_of}
+use Rattle.cdc_top.specs.Report.{Answer, line_end, printed, outcome_of, status_of}
 use Rattle.cdc_top.specs.Source.{Source}
 use Rattle.cdc_top.specs.Status.{IsFinished}
 use Rattle.cdc_top.proofs.Runs.{run_is_sound}
 
 -- the line end that an output lacks
-pub closes : (output : List ℕ) (is_open : Bool) → is_open ≡ not (ends_line output) → if◌then◌else◌ {A = List ℕ} is_open (10 ∷ []) [] ≡ line_end output
-closes output is_open is = ap (λ (b : Bool). if◌then◌else◌ {A = List ℕ} b (10 ∷ []) []) is ∙ choose (ends_line output)
-  where
-    choose : (b : Bool) → if◌then◌else◌ {A = List ℕ} (not b) (10 ∷ []) [] ≡ if◌then◌else◌ {A = List ℕ} b [] (10 ∷ [])
-    choose true = refl
-    choose false = refl
+pub closes : (output : List ℕ) (open_now : Bool) → open_now ≡ is_open output → if◌then◌else◌ {A = List ℕ} open_now (10 ∷ []) [] ≡ line_end output
+closes output open_now is = ap (λ (b : Bool). if◌then◌else◌ {A = List ℕ} b (10 ∷ []) []) is
 
 -- the code and the machine are those of the source
 pub record IsPrepared (source : Source) (code : List Step) (machine : Machine) : Type 0 where

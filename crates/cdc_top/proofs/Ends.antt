@@ -5,7 +5,8 @@ use Rattle.std.proofs.lemmas.Bool.Decides.{nat_tests}
 use Rattle.std.proofs.lemmas.List.{length-replicate}
 use Rattle.cdc_base.specs.Outside.{IsWhole, IsLong}
 use Rattle.cdc_base.specs.Causes.{Rose}
-use Rattle.cdc_top.specs.Answer.{Answer, answer, usage_text, Command, Usage, ToolEnded, Files, Said, Ended, IsTold, IsAccepted, IsHeader, ScheduleAnswers, InputAnswers, RunAnswers, InputFailed, CheckAnswers, CheckSaid, source_refused, input_refused, schedule_refused, ran, source_limit, schedule_limit}
+use Rattle.cdc_top.specs.Answer.{usage_text, Command, Usage, ToolEnded, Files, Said, Ended, IsTold, IsAccepted, IsHeader, ScheduleAnswers, InputAnswers, RunAnswers, InputFailed, IsRefusedWith, SaidOneOf, source_refused, input_refused, schedule_refused, ran, source_limit, schedule_limit}
+use Rattle.cdc_top.specs.Report.{Answer, answer}
 use Rattle.cdc_check.specs.declared.refusal.CheckRefusal.TheVariants.{TooMany}
 use Rattle.cdc_compile.specs.declared.refusal.Refusal.TheVariants.{Check}
 use Rattle.cdc_compile.specs.Texts.{refusal_text}
@@ -107,6 +108,9 @@ ended_behind wide status old new before mid now sink_before sink_now told to onl
   quiet = λ finished. let q = ended.quiet finished in (λ name. q.0 name ∙ same name, q.1);
 }
 
+abbrev pub with_input : List ℕ → Files
+with_input bytes = record { program = []; input = bytes; schedule = [] }
+
 abbrev pub with_schedule : List ℕ → Files
 with_schedule bytes = record { program = []; input = []; schedule = bytes }
 
@@ -166,14 +170,14 @@ usage_ended command told faults status old new sink_before sink_now is said =
     (ended_said (with_schedule []) (answer usage_text 2) status old new faults faults sink_before sink_now tt refl (λ b same. same) (λ name. refl) said)
 
 -- a program of too many bytes is refused
-pub source_too_long : (bytes : List ℕ) → source_limit < length bytes → CheckAnswers bytes (answer (refusal_text (Check (TooMany k.Source))) 3)
-source_too_long bytes long = inl (Check (TooMany k.Source), (λ e. absurd (cc e)), long, refl)
+pub source_too_long : (bytes : List ℕ) → source_limit < length bytes → IsRefusedWith bytes (answer (refusal_text (Check (TooMany k.Source))) 3)
+source_too_long bytes long = (Check (TooMany k.Source), (λ e. absurd (cc e)), long, refl)
 
--- a program was checked
-pub ended_checked : {A : Files → Type 0} {O : Files → Answer → Type 0} {F : Files → Type 0} (files : Files) (status : ℕ) (old new : Option (List ℕ)) (before now : List ℕ → ℕ) (sink_before sink_now : ℕ)
-    → A files → ((a : Answer) → O files a) → ((name : List ℕ) → now name ≡ before name) → CheckSaid files.program status old new sink_before sink_now
-    → Ended A (λ f. CheckAnswers f.program) O F status old new before now sink_before sink_now
-ended_checked files status old new before now sink_before sink_now told only same said = elim said [
+-- one of the answers was said
+pub ended_one_of : {A : Files → Type 0} {X O : Files → Answer → Type 0} {F : Files → Type 0} (files : Files) (status : ℕ) (old new : Option (List ℕ)) (before now : List ℕ → ℕ) (sink_before sink_now : ℕ)
+    → A files → ((a : Answer) → X files a → O files a) → ((name : List ℕ) → now name ≡ before name) → SaidOneOf (X files) status old new sink_before sink_now
+    → Ended A X O F status old new before now sink_before sink_now
+ended_one_of files status old new before now sink_before sink_now told only same said = elim said [
   | inl memory ↦ ended_nothing files status old new before now sink_before sink_now told memory
-  | inr answered ↦ ended_said files answered.0 status old new before now sink_before sink_now told answered.1 (only answered.0) same answered.2
+  | inr answered ↦ ended_said files answered.0 status old new before now sink_before sink_now told answered.1 (only answered.0 answered.1) same answered.2
 ]

@@ -7,3 +7,6 @@ pub mod Replays
 pub mod Answered
 pub mod Laws
 pub mod Ends
+pub mod Seqs
+pub mod One
+pub mod Complete

@@ -1,20 +1,17 @@
 -- A run that prints as it goes, event by event.
-use Rattle.std.proofs.Common.{◌≡◌, ℕ, suc, ◌+◌, ◌-◌, ◌<◌, ◌≤◌, List, [], ◌∷◌, ◌++◌, refl, sym, ◌∙◌, ap, subst, arith, true, false, Bool, if◌then◌else◌, append_assoc, length}
-use Rattle.std.specs.Prelude.{ℤ, pos, negsuc, not, Option, Some, None, is_some, ◌==◌}
-use Rattle.std.specs.Str.Parse.{AllDigits}
-use Rattle.std.specs.Char.{digit_value}
-use Rattle.std.proofs.lemmas.Bool.Decides.{nat_tests}
+use Rattle.std.proofs.Common.{◌≡◌, ℕ, suc, ◌+◌, ◌-◌, ◌<◌, ◌≤◌, List, [], ◌++◌, refl, sym, ◌∙◌, ap, subst, arith, false, Bool, if◌then◌else◌, append_assoc}
+use Rattle.std.specs.Prelude.{Option, Some, None, is_some}
 use Rattle.cdc_base.specs.Outside.{grown}
 use Rattle.cdc_code.specs.declared.instr.Step.{Step}
-use Rattle.cdc_num.specs.Decimal.{decimal_bytes, IsDecimalOf}
+use Rattle.cdc_prog.specs.Lines.{opened}
 use Rattle.cdc_top.specs.declared.machine.Outcome.{Outcome}
 use Rattle.cdc_top.specs.Machine.{Machine, State, Turn, turn, next, play}
 use Rattle.cdc_text.specs.Pieces.{GrewByFront}
 use Rattle.cdc_top.specs.Ready.{IsReady}
 use Rattle.cdc_top.specs.Replay.{Replaying, Runs, fresh}
-use Rattle.cdc_top.specs.Report.{ends_line}
 use Rattle.cdc_base.proofs.Grown.{grown-grown}
 use Rattle.cdc_text.proofs.Pieces.{grown_nothing, front_first, front_second}
+use Rattle.cdc_meaning.proofs.Opened.{opened-opened}
 use Rattle.cdc_top.proofs.Runs.{grows, holds_on, stays}
 
 pub begins : (code : List Step) (machine : Machine) (bound : ℕ) (old : Option (List ℕ)) → Runs code (fresh machine) → Replaying code machine machine 0 bound old old false
@@ -47,8 +44,8 @@ module _ (code : List Step) (first now : Machine) (applied bound : ℕ) (old mid
 
   -- one event more
   pub replays_on : (later : Machine) (piece : List ℕ) (new : Option (List ℕ)) (is_open : Bool) → turn code now ≡ record { machine = later; piece = piece } → new ≡ grown mid piece
-      → ((output : List ℕ) → was ≡ not (ends_line output) → is_open ≡ not (ends_line (output ++ piece))) → Replaying code first later (applied + 1) bound old new is_open
-  replays_on later piece new is_open is took opened = record {
+      → is_open ≡ opened was piece → Replaying code first later (applied + 1) bound old new is_open
+  replays_on later piece new is_open is took open_now = record {
     output = before.output ++ piece;
     rest = event_first later piece is;
     runs =
@@ -56,7 +53,7 @@ module _ (code : List Step) (first now : Machine) (applied bound : ℕ) (old mid
         let same : next code (at now before.output) ≡ at later (before.output ++ piece) = ap (λ (t : Turn). at t.machine (before.output ++ t.piece)) is in
         subst (λ (s : State). (n : ℕ) → P (play code n s)) same (holds_on code P (at now before.output) running before.runs);
     took = took ∙ ap (λ o. grown o piece) before.took ∙ grown-grown old before.output piece;
-    line = opened before.output before.line;
+    line = open_now ∙ ap (λ (b : Bool). opened b piece) before.line ∙ opened-opened false before.output piece;
   }
 
   -- what the event prints was written in part
@@ -76,34 +73,6 @@ ended_there code first now applied bound old mid was e over before = sym (stays 
 pub used_up : (code : List Step) (first now : Machine) (applied bound : ℕ) (old mid : Option (List ℕ)) (was : Bool) → bound ≤ applied
     → (before : Replaying code first now applied bound old mid was) → at now before.output ≡ play code bound (fresh first)
 used_up code first now applied bound old mid was none before = let left : 0 ≡ bound - applied = omega arith in ap (λ n. play code n (at now before.output)) left ∙ before.rest
-
--- bytes behind others decide whether they end a line
-ends_behind : (xs : List ℕ) (b : ℕ) (ys : List ℕ) → ends_line (xs ++ b ∷ ys) ≡ ends_line (b ∷ ys)
-ends_behind [] b ys = refl
-ends_behind (x ∷ []) b ys = refl
-ends_behind (x ∷ y ∷ xs) b ys = ends_behind (y ∷ xs) b ys
-
-pub opens_line : (output : List ℕ) → false ≡ not (ends_line (output ++ 10 ∷ []))
-opens_line output = rw (ends_behind output 10 []) refl
-
-digit_open : (b : ℕ) → digit_value b < 10 → (b == 10) ≡ false
-digit_open b is = grind (arith, nat_tests, is)
-
--- digits are no line end
-digits_open : (b : ℕ) (ds : List ℕ) → AllDigits 10 (b ∷ ds) → ends_line (b ∷ ds) ≡ false
-digits_open b [] is = digit_open b is.0
-digits_open b (c ∷ ds) is = digits_open c ds is.1
-
-number_open : (output text : List ℕ) → 0 < length text → AllDigits 10 text → ends_line (output ++ text) ≡ false
-number_open output [] some is = absurd (omega (arith, some))
-number_open output (b ∷ ds) some is = ends_behind output b ds ∙ digits_open b ds is
-
-pub opens_number : (output : List ℕ) (value : ℤ) → IsDecimalOf value (decimal_bytes value) → true ≡ not (ends_line (output ++ decimal_bytes value))
-opens_number output (pos n) is = ap not (sym (number_open output (decimal_bytes (pos n)) is.some is.digits))
-opens_number output (negsuc n) is =
-    let minus : decimal_bytes (negsuc n) ≡ 45 ∷ is.0 = is.1 in
-    let shut : ends_line ((output ++ 45 ∷ []) ++ is.0) ≡ false = number_open (output ++ 45 ∷ []) is.0 is.2.some is.2.digits in
-    ap not (sym (ap (λ (t : List ℕ). ends_line (output ++ t)) minus ∙ ap ends_line (sym (append_assoc output (45 ∷ []) is.0)) ∙ shut))
 
 pub not_some : {X : Type 0} (o : Option X) → is_some o ≡ false → o ≡ None
 not_some None is = refl

@@ -9,24 +9,20 @@ use Rattle.cdc_compile.specs.declared.refusal.Refusal.TheVariants.{Memory}
 use Rattle.cdc_compile.specs.Source.{IsProgramOf}
 use Rattle.cdc_compile.specs.Texts.{accepted_text, refusal_text}
 use Rattle.cdc_prog.specs.declared.program.Program.{Program}
+use Rattle.cdc_prog.specs.Plain as plain
 use Rattle.cdc_prog.specs.Translation.{program_of}
 use Rattle.cdc_text.specs.Pieces.{GrewByFront}
-use Rattle.cdc_top.specs.Report.{joined, printed, outcome_of, status_of}
+use Rattle.cdc_top.specs.Report.{Answer, answer, joined, printed, outcome_of, status_of}
 use Rattle.cdc_top.specs.Schedule.{IsSchedule}
+use Rattle.cdc_top.specs.Sequential.{InputIs}
 use Rattle.cdc_top.specs.Source.{Source, IsSource, line}
 use Rattle.cdc_top.specs.Status.{IsFinished}
-
-pub record Answer : Type 0 where
-  pub bytes : List ℕ
-  pub status : ℕ
-
-abbrev pub answer : List ℕ → ℕ → Answer
-answer bytes status = record { bytes = bytes; status = status }
 
 -- a command by its words
 pub data Command : Type 0 where
   Run : (program input schedule : List ℕ) → Command
   Check : (program : List ℕ) → Command
+  Seq : (program input : List ℕ) → Command
   Usage : Command
 
 -- a word that is empty or begins with `-` is no name of a file
@@ -41,11 +37,14 @@ run_of verb program input schedule =
 abbrev pub check_of : List ℕ → List ℕ → Command
 check_of verb program = if bytes_eq verb (codes "check") && is_name program then Check program else Usage
 
+abbrev pub seq_of : List ℕ → List ℕ → List ℕ → Command
+seq_of verb program input = if bytes_eq verb (codes "seq") && (is_name program && is_name input) then Seq program input else Usage
+
 abbrev pub command_of : List (List ℕ) → Command
 command_of [] = Usage
 command_of (verb ∷ []) = Usage
 command_of (verb ∷ program ∷ []) = check_of verb program
-command_of (verb ∷ program ∷ input ∷ []) = Usage
+command_of (verb ∷ program ∷ input ∷ []) = seq_of verb program input
 command_of (verb ∷ program ∷ input ∷ schedule ∷ []) = run_of verb program input schedule
 command_of (verb ∷ program ∷ input ∷ schedule ∷ more ∷ words) = Usage
 
@@ -104,16 +103,23 @@ abbrev pub RunAnswers : Files → Answer → Type 0
 RunAnswers files a =
     (((source : Source) → IsAccepted files.program source → ⊥) × (a ≡ source_refused)) ⊎ ((source : Source) × IsAccepted files.program source × InputAnswers source files a)
 
--- the first refusal of the program is answered, or that it is accepted, with its numbers; want of memory is no refusal
+-- the first refusal of the program is answered; want of memory is no refusal
+abbrev pub IsRefusedWith : List ℕ → Answer → Type 0
+IsRefusedWith source a = (refusal : Refusal) × (refusal ≢ Memory) × IsProgramOf source (Err refusal) × (a ≡ answer (refusal_text refusal) 3)
+
+-- or that it is accepted, with its numbers
 abbrev pub CheckAnswers : List ℕ → Answer → Type 0
-CheckAnswers source a =
-    ((refusal : Refusal) × (refusal ≢ Memory) × IsProgramOf source (Err refusal) × (a ≡ answer (refusal_text refusal) 3))
-    ⊎ ((program : Program) × IsProgramOf source (Ok (program_of program)) × (a ≡ answer (accepted_text program) 0))
+CheckAnswers source a = IsRefusedWith source a ⊎ ((program : Program) × IsProgramOf source (Ok (program_of program)) × (a ≡ answer (accepted_text program) 0))
+
+-- or the input is refused, or what the program prints on its records is answered, with its end
+abbrev pub SeqAnswers : List ℕ → List ℕ → Answer → Type 0
+SeqAnswers source input a = IsRefusedWith source a ⊎ ((program : plain.Program) × IsProgramOf source (Ok program) × InputIs program input a)
 
 -- the answer to a command over the bytes of its files
 abbrev pub Answers : Command → Files → Answer → Type 0
 Answers (Run program input schedule) files a = RunAnswers files a
 Answers (Check program) files a = CheckAnswers files.program a
+Answers (Seq program input) files a = SeqAnswers files.program files.input a
 Answers Usage files a = a ≡ answer usage_text 2
 
 -- the bytes of a file, where they are told, are these
@@ -125,6 +131,7 @@ IsTold (Some told) bytes = bytes ≡ told
 abbrev pub AreTold : Command → (List ℕ → Option (List ℕ)) → Files → Type 0
 AreTold (Run program input schedule) told files = IsTold (told program) files.program × IsTold (told input) files.input × IsTold (told schedule) files.schedule
 AreTold (Check program) told files = IsTold (told program) files.program
+AreTold (Seq program input) told files = IsTold (told program) files.program × IsTold (told input) files.input
 AreTold Usage told files = Unit {0}
 
 -- a file's count rose, and nothing before its reading is refused
@@ -135,17 +142,13 @@ abbrev pub ReadFailed : Command → Files → (List ℕ → ℕ) → (List ℕ �
 ReadFailed (Run program input schedule) files before now =
     Rose (before program) (now program) ⊎ ((source : Source) × IsAccepted files.program source × InputFailed input schedule files before now)
 ReadFailed (Check program) files before now = Rose (before program) (now program)
+ReadFailed (Seq program input) files before now =
+    Rose (before program) (now program) ⊎ ((accepted : plain.Program) × IsProgramOf files.program (Ok accepted) × Rose (before input) (now input))
 ReadFailed Usage files before now = ⊥
 
 -- there is no other answer
 abbrev pub Only : (Files → Answer → Type 0) → Files → Answer → Type 0
 Only answers files a = (b : Answer) → answers files b → b ≡ a
-
--- the answer of `run` and of other words is the only one; of `check` that is not stated
-abbrev pub HasOne : Command → Files → Answer → Type 0
-HasOne (Run program input schedule) files a = Only RunAnswers files a
-HasOne (Check program) files a = Unit {0}
-HasOne Usage files a = Only (Answers Usage) files a
 
 -- How a call ended, by what files it may have read, what their answers are, which is the only one and when a reading of them fails.
 pub record Ended (are_told : Files → Type 0) (answers only : Files → Answer → Type 0) (failed : Files → Type 0) (status : ℕ) (old new : Option (List ℕ)) (before now : List ℕ → ℕ) (sink_before sink_now : ℕ) : Type 0 where
@@ -165,7 +168,7 @@ pub record Ended (are_told : Files → Type 0) (answers only : Files → Answer 
 -- how a call of the tool ended
 abbrev pub ToolEnded : Command → (List ℕ → Option (List ℕ)) → ℕ → Option (List ℕ) → Option (List ℕ) → (List ℕ → ℕ) → (List ℕ → ℕ) → ℕ → ℕ → Type 0
 ToolEnded command told status old new before now sink_before sink_now =
-    Ended (AreTold command told) (Answers command) (HasOne command) (λ files. ReadFailed command files before now) status old new before now sink_before sink_now
+    Ended (AreTold command told) (Answers command) (Only (Answers command)) (λ files. ReadFailed command files before now) status old new before now sink_before sink_now
 
 -- an answer was written whole, or a front of it where the sink failed, or nothing for want of memory
 pub record Said (a : Answer) (status : ℕ) (old new : Option (List ℕ)) (before now : ℕ) : Type 0 where
@@ -174,16 +177,16 @@ pub record Said (a : Answer) (status : ℕ) (old new : Option (List ℕ)) (befor
   pub memory : status ≡ 7 → new ≡ old
   pub reads : status ≢ 5
 
--- the program was answered, or memory ran out and nothing was written
-abbrev pub CheckSaid : List ℕ → ℕ → Option (List ℕ) → Option (List ℕ) → ℕ → ℕ → Type 0
-CheckSaid source status old new before now =
-    ((status ≡ 7) × (new ≡ old) × (now ≡ before)) ⊎ ((a : Answer) × CheckAnswers source a × Said a status old new before now)
+-- one of the answers was said, or memory ran out and nothing was written
+abbrev pub SaidOneOf : (Answer → Type 0) → ℕ → Option (List ℕ) → Option (List ℕ) → ℕ → ℕ → Type 0
+SaidOneOf answers status old new before now =
+    ((status ≡ 7) × (new ≡ old) × (now ≡ before)) ⊎ ((a : Answer) × answers a × Said a status old new before now)
 
 -- The answer to the words was taken whole with its status, or a front of it after a fault of the sink, or nothing.
 pub record IsAnswered (command : Command) (told : List ℕ → Option (List ℕ)) (status : ℕ) (old new : Option (List ℕ)) : Type 0 where
   pub files : Files
   pub are_told : AreTold command told files
-  pub whole : IsFinished status → (a : Answer) × Answers command files a × HasOne command files a × (status ≡ a.status) × (new ≡ grown old a.bytes)
+  pub whole : IsFinished status → (a : Answer) × Answers command files a × Only (Answers command) files a × (status ≡ a.status) × (new ≡ grown old a.bytes)
   pub part : status ≡ 6 → (a : Answer) × Answers command files a × GrewByFront old new a.bytes
   pub nothing : (status ≡ 5) ⊎ (status ≡ 7) → new ≡ old
 

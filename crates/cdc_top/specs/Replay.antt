@@ -1,10 +1,10 @@
 -- A run that prints as it goes.
-use Rattle.std.specs.Prelude.{◌≡◌, ℕ, ◌-◌, Bool, not, List, [], Option, None}
+use Rattle.std.specs.Prelude.{◌≡◌, ℕ, ◌-◌, Bool, false, List, [], Option, None}
 use Rattle.cdc_base.specs.Outside.{grown}
 use Rattle.cdc_code.specs.declared.instr.Step.{Step}
+use Rattle.cdc_prog.specs.Lines.{opened}
 use Rattle.cdc_top.specs.Machine.{Machine, State, play}
 use Rattle.cdc_top.specs.Ready.{IsReady}
-use Rattle.cdc_top.specs.Report.{ends_line}
 
 -- a machine that has printed nothing
 abbrev pub fresh : Machine → State
@@ -20,4 +20,4 @@ pub record Replaying (code : List Step) (first now : Machine) (applied bound : �
   pub rest : play code (bound - applied) (record { machine = now; output = output }) ≡ play code bound (fresh first)
   pub runs : Runs code (record { machine = now; output = output })
   pub took : new ≡ grown old output
-  pub line : is_open ≡ not (ends_line output)
+  pub line : is_open ≡ opened false output

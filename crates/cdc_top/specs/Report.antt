@@ -1,12 +1,23 @@
 -- The lines that `run` prints behind the program's output.
-use Rattle.std.specs.Prelude.{ℕ, ◌==◌, Bool, true, if◌then◌else◌, List, [], ◌∷◌, ◌++◌, codes, pos, unwrap_or}
+use Rattle.std.specs.Prelude.{ℕ, if◌then◌else◌, List, [], ◌∷◌, ◌++◌, codes, pos, unwrap_or}
 use Rattle.cdc_num.specs.Decimal.{decimal_bytes}
 use Rattle.cdc_prog.specs.declared.program.FaultKind.{FaultKind}
 use Rattle.cdc_prog.specs.declared.program.FaultKind.TheVariants.{Overflow, ZeroDivisor, Subscript, ZeroStep, TripTooLarge, InputEnded}
+use Rattle.cdc_prog.specs.InOrder.{End}
+use Rattle.cdc_prog.specs.InOrder as end
+use Rattle.cdc_prog.specs.Lines.{is_open}
 use Rattle.cdc_top.specs.declared.machine.Outcome.{Outcome}
 use Rattle.cdc_top.specs.declared.machine.Outcome.TheVariants.{Done, Fault, Stopped}
 use Rattle.cdc_top.specs.declared.machine.Counts.{Counts}
 use Rattle.cdc_top.specs.Machine.{Machine, State}
+
+-- the bytes that are printed, and the status
+pub record Answer : Type 0 where
+  pub bytes : List ℕ
+  pub status : ℕ
+
+abbrev pub answer : List ℕ → ℕ → Answer
+answer bytes status = record { bytes = bytes; status = status }
 
 abbrev pub number : ℕ → List ℕ
 number n = decimal_bytes (pos n)
@@ -49,15 +60,14 @@ count_line counts = joined (
 abbrev pub outcome_of : Machine → Outcome
 outcome_of machine = unwrap_or machine.ended Stopped
 
--- nothing, or bytes whose last is a line end
-abbrev pub ends_line : List ℕ → Bool
-ends_line [] = true
-ends_line (b ∷ []) = b == 10
-ends_line (b ∷ c ∷ rest) = ends_line (c ∷ rest)
+-- how a program ended on one memory
+abbrev pub outcome_of_end : End → Outcome
+outcome_of_end end.Done = Done
+outcome_of_end (end.Faulted f) = Fault f.kind f.line
 
 -- the line end that an output may lack
 abbrev pub line_end : List ℕ → List ℕ
-line_end output = if ends_line output then [] else 10 ∷ []
+line_end output = if is_open output then 10 ∷ [] else []
 
 abbrev pub report : Machine → ℕ → List ℕ
 report machine bound = end_line (outcome_of machine) ++ (event_lines machine.events bound ++ count_line machine.counts)

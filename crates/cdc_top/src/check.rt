@@ -1,16 +1,14 @@
 // The command `check` over the bytes of its file.
 ghost use Rattle.cdc_compile.specs.Refusals.{IsNamed};
 ghost use Rattle.cdc_compile.specs.Texts.{accepted_text, refusal_text};
-ghost use Rattle.cdc_top.specs.Answer.{answer, Said, CheckSaid};
+ghost use Rattle.cdc_top.specs.Answer.{Said, SaidOneOf, CheckAnswers};
+ghost use Rattle.cdc_top.specs.Report.{answer};
 
-use crate::run::{OUT_OF_MEMORY, WRITE_FAULT};
+use crate::status::{OUT_OF_MEMORY, PROGRAM_REFUSED, WRITE_FAULT};
 use cdc_base::Sink;
 use cdc_compile::{Refusal, program, write_accepted, write_refusal};
 use cdc_prog::Program;
 use std::alloc::Global;
-
-/// The status after the refusal of a program.
-const PROGRAM_REFUSED: u8 = 3;
 
 fn say_accepted<K: Sink>(program: &Program, out: &mut K) -> u8
     ensures { Said (answer (accepted_text program.now) 0) result (K.taken out.old) (K.taken out.new) (K.faults out.old) (K.faults out.new) }
@@ -34,7 +32,7 @@ pub fn say_refused<K: Sink>(refusal: Refusal, out: &mut K) -> u8
 
 /// Checks a source and writes that it is accepted, or its first refusal. All memory is taken before the first byte is written.
 pub fn check_source<K: Sink>(alloc: Global, source: &[u8], out: &mut K) -> u8
-    ensures { CheckSaid source.now result (K.taken out.old) (K.taken out.new) (K.faults out.old) (K.faults out.new) }
+    ensures { SaidOneOf (CheckAnswers source.now) result (K.taken out.old) (K.taken out.new) (K.faults out.old) (K.faults out.new) }
 {
     match program(alloc, source) {
         Ok(program) => say_accepted(&program, out),

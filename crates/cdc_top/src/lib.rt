@@ -2,12 +2,15 @@
 #![tactic(auto)]
 
 mod check;
+mod limits;
 mod machine;
 mod replay;
 mod report;
 mod run;
 mod schedule;
+mod seq;
 mod source;
+mod status;
 #[cfg(test)]
 mod tests;
 mod tool;

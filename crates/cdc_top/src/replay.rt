@@ -1,10 +1,10 @@
 // A run that prints as it goes.
-ghost use Rattle.std.specs.Prelude.{◌≡◌, [], ◌∷◌, ◌++◌, ℕ, List, true, false, not, IfOk};
+ghost use Rattle.std.specs.Prelude.{◌≡◌, [], ◌∷◌, Bool, true, false, IfOk};
 ghost use Rattle.cdc_num.specs.Decimal.{decimal_bytes};
+ghost use Rattle.cdc_prog.specs.Lines.{opened};
 ghost use Rattle.cdc_top.specs.Machine.{play, piece_bytes};
 ghost use Rattle.cdc_text.specs.Pieces.{Wrote};
 ghost use Rattle.cdc_top.specs.Replay.{Runs, fresh};
-ghost use Rattle.cdc_top.specs.Report.{ends_line};
 
 use crate::machine::{Machine, Piece};
 use cdc_base::{Sink, SinkFault};
@@ -15,16 +15,15 @@ use cdc_text::write_words;
 // Writes a number in decimal, which leaves a line open.
 fn write_number<K: Sink>(out: &mut K, value: i64) -> Result<(), SinkFault>
     ensures wrote { Wrote (decimal_bytes value) result (K.taken out.old) (K.taken out.new) (K.faults out.old) (K.faults out.new) }
-    ensures opens { (output : List ℕ) → true ≡ not (ends_line (output ++ decimal_bytes value)) }
+    ensures opens { (before : Bool) → true ≡ opened before (decimal_bytes value) }
 {
     let text = decimal(value);
     write_words(out, text.as_bytes())
 }
 
-// Writes a line end, behind which no line is open.
+// Writes a line end.
 fn write_line<K: Sink>(out: &mut K) -> Result<(), SinkFault>
-    ensures wrote { Wrote (10 ∷ []) result (K.taken out.old) (K.taken out.new) (K.faults out.old) (K.faults out.new) }
-    ensures shuts { (output : List ℕ) → false ≡ not (ends_line (output ++ 10 ∷ [])) }
+    ensures { Wrote (10 ∷ []) result (K.taken out.old) (K.taken out.new) (K.faults out.old) (K.faults out.new) }
 {
     write_words(out, b"\n")
 }
@@ -32,7 +31,7 @@ fn write_line<K: Sink>(out: &mut K) -> Result<(), SinkFault>
 // Writes what an event prints, and says whether a line is open behind it.
 fn write_piece<K: Sink>(out: &mut K, piece: Option<Piece>, is_open: bool) -> Result<bool, SinkFault>
     ensures wrote { Wrote (piece_bytes piece) result (K.taken out.old) (K.taken out.new) (K.faults out.old) (K.faults out.new) }
-    ensures line { IfOk result (λ opened. (output : List ℕ) → is_open ≡ not (ends_line output) → opened ≡ not (ends_line (output ++ piece_bytes piece))) }
+    ensures line { IfOk result (λ later. later ≡ opened is_open (piece_bytes piece)) }
 {
     match piece {
         None => Ok(is_open),
@@ -57,7 +56,7 @@ pub fn replay<K: Sink>(
 ) -> Result<bool, SinkFault>
     requires { Runs code.now (fresh machine.old) }
     ensures machine { IfOk result (λ is_open. machine.new ≡ (play code.now bound (fresh machine.old)).machine) }
-    ensures line { IfOk result (λ is_open. is_open ≡ not (ends_line (play code.now bound (fresh machine.old)).output)) }
+    ensures line { IfOk result (λ is_open. is_open ≡ opened false (play code.now bound (fresh machine.old)).output) }
     ensures wrote { Wrote (play code.now bound (fresh machine.old)).output result (K.taken out.old) (K.taken out.new) (K.faults out.old) (K.faults out.new) }
 {
     let mut is_open = false;

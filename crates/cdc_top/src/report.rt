@@ -108,6 +108,14 @@ pub fn outcome(machine: &Machine) -> Outcome
     machine.ended().unwrap_or(Outcome::Stopped)
 }
 
+/// Writes the line end that the output may lack, and then how it ended.
+pub fn write_closing<K: Sink>(out: &mut K, is_open: bool, outcome: Outcome) -> Result<(), SinkFault>
+    ensures { Wrote ((if is_open then 10 ∷ [] else []) ++ end_line outcome) result (K.taken out.old) (K.taken out.new) (K.faults out.old) (K.faults out.new) }
+{
+    close_line(out, is_open)?;
+    write_end(out, outcome)
+}
+
 fn write_facts<K: Sink>(
     out: &mut K,
     events: u64,

@@ -1,10 +1,10 @@
 // The command `run` over the bytes of its files.
 ghost use Rattle.std.specs.Prelude.{◌≡◌, ℕ, List, OnOk};
-ghost use Rattle.cdc_top.specs.Answer.{Answer, answer, ran, Said};
+ghost use Rattle.cdc_top.specs.Answer.{ran, Said};
 ghost use Rattle.cdc_top.specs.Machine.{play};
 ghost use Rattle.cdc_text.specs.Pieces.{Wrote};
 ghost use Rattle.cdc_top.specs.Replay.{Runs, fresh};
-ghost use Rattle.cdc_top.specs.Report.{printed};
+ghost use Rattle.cdc_top.specs.Report.{Answer, answer, printed};
 ghost use Rattle.cdc_top.specs.Status.{IsFinished};
 ghost use Rattle.cdc_top.specs.Words.{source_of};
 
@@ -12,17 +12,12 @@ use crate::machine::Machine;
 use crate::replay::replay;
 use crate::report::{outcome, status, write_report};
 use crate::source::Source;
+use crate::status::{OUT_OF_MEMORY, WRITE_FAULT};
 use crate::translate::{code, objects};
 use cdc_base::{Sink, SinkFault};
 use cdc_code::Step;
 use cdc_text::write_words;
 use std::alloc::Global;
-
-/// The status after a fault of the sink.
-pub const WRITE_FAULT: u8 = 6;
-
-/// The status after want of memory.
-pub const OUT_OF_MEMORY: u8 = 7;
 
 /// Writes a text, and ends with this status.
 pub fn say<K: Sink>(out: &mut K, text: &[u8], status: u8) -> u8

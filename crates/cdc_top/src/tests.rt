@@ -53,6 +53,10 @@ const CHECK: &str = "check,one.f";
 
 const ACCEPTED: &str = "accepted units 1 objects 1 words 1 sites 2 doalls 0\n";
 
+const SEQ: &str = "seq,one.f,one.in";
+
+const SIX: &str = "6\n= end done\n";
+
 // The words of a line, with a comma between two.
 fn split_words(alloc: Global, line: &str) -> Result<Vec<String>, Fail> {
     let mut list = Vec::new(alloc);
@@ -345,6 +349,216 @@ fn a_program_has_its_limit(rt: HostRuntime) -> Result<(), Fail> {
     Ok(())
 }
 
+// Programs with the lines of their input; then the rules of the language, a line each.
+#[test]
+fn programs_are_carried_out(rt: HostRuntime) -> Result<(), Fail> {
+    let words = split_words(rt.alloc(), SEQ)?;
+    for (between, input, status, text) in [
+        (
+            "PRINT *, MOD(-7, 3), -7 / 2, 7 / (-2), -2 * 3\nK = -9223372036854775807 - 1\nPRINT *, K\nPRINT *, ABS(K)",
+            "",
+            1,
+            "-1 -3 -3 -6\n-9223372036854775808\n= end fault overflow at line 5\n",
+        ),
+        (
+            "DO K = 9223372036854775806, 9223372036854775807\nPRINT *, K\nEND DO",
+            "",
+            1,
+            "9223372036854775806\n9223372036854775807\n= end fault overflow at line 2\n",
+        ),
+        (
+            "READ *, I, J\nREAD *, K\nPRINT *, I, J, K\nREAD *, L",
+            "1\n2 99\n3, 4\n",
+            1,
+            "1 2 3\n= end fault input ended at line 5\n",
+        ),
+        (
+            "READ *, I, J\nREAD *, K\nPRINT *, I, J, K\nREAD *, L",
+            "1 ,, 2\n",
+            4,
+            "refused input at 1:4\n",
+        ),
+        ("X = 1", "x", 3, "refused Undeclared at 2:1\n"),
+        ("N = 1", "", 0, "= end done\n"),
+        ("PRINT *", "", 0, "\n= end done\n"),
+        (
+            "PRINT *, 'a b', 1, \"it's\", '', 'don''t'",
+            "",
+            0,
+            "a b 1 it's  don't\n= end done\n",
+        ),
+        (
+            "N = 3\nPRINT *, -N * 2, 2 - N - 4, MIN(N, 1, 2), MAX(1, N, 2), ABS(-4)",
+            "",
+            0,
+            "-6 -5 1 3 4\n= end done\n",
+        ),
+        (
+            "INTEGER A(-1:1)\nA(-1) = 5\nA(1) = 6\nPRINT *, A(-1), A(0), A(1)",
+            "",
+            0,
+            "5 0 6\n= end done\n",
+        ),
+        // What is evaluated first faults first.
+        (
+            "INTEGER A(2)\nA(3) = 1 / 0",
+            "",
+            1,
+            "= end fault subscript at line 3\n",
+        ),
+        (
+            "INTEGER A(2, 2)\nA(3, 1 / 0) = 1",
+            "",
+            1,
+            "= end fault zero divisor at line 3\n",
+        ),
+        (
+            "N = 9223372036854775807 + 1 + 1 / 0",
+            "",
+            1,
+            "= end fault overflow at line 2\n",
+        ),
+        (
+            "N = MOD(1, 0) + (9223372036854775807 + 1)",
+            "",
+            1,
+            "= end fault zero divisor at line 2\n",
+        ),
+        (
+            "IF (1 == 2 .AND. 1 / 0 == 1) N = 1",
+            "",
+            1,
+            "= end fault zero divisor at line 2\n",
+        ),
+        (
+            "IF (1 == 1 .OR. 1 / 0 == 1) N = 1",
+            "",
+            1,
+            "= end fault zero divisor at line 2\n",
+        ),
+        (
+            "IF (1 == 2) THEN\nELSE IF (1 / 0 == 1) THEN\nEND IF",
+            "",
+            1,
+            "= end fault zero divisor at line 3\n",
+        ),
+        (
+            "IF (.NOT. 1 < 2 .OR. 2 >= 2 .AND. 1 /= 2) PRINT *, 'y'\nN = 5\nIF (N < 3) THEN\nPRINT *, 'low'\nELSE IF (N < 6) THEN\nPRINT *, 'mid'\nELSE\nPRINT *, 'high'\nEND IF",
+            "",
+            0,
+            "y\nmid\n= end done\n",
+        ),
+        // Loops.
+        (
+            "DO K = 1, 2, 0\nEND DO",
+            "",
+            1,
+            "= end fault zero step at line 2\n",
+        ),
+        (
+            "DO K = 2, 1\nPRINT *, K\nEND DO\nPRINT *, K",
+            "",
+            0,
+            "2\n= end done\n",
+        ),
+        (
+            "DO K = 3, 1, -1\nPRINT *, K\nEND DO\nDO K = 1, 6, 2\nEND DO\nPRINT *, K",
+            "",
+            0,
+            "3\n2\n1\n7\n= end done\n",
+        ),
+        (
+            "DO I = 1, 2\nDO J = I, 2\nPRINT *, I, J\nEND DO\nEND DO\nPRINT *, I, J",
+            "",
+            0,
+            "1 1\n1 2\n2 2\n3 3\n= end done\n",
+        ),
+        (
+            "N = 2\nDO K = 1, N\nN = 5\nEND DO\nPRINT *, K, N",
+            "",
+            0,
+            "3 5\n= end done\n",
+        ),
+        // Records.
+        (
+            "READ *, I, J, K\nPRINT *, K, J, I\nREAD *\nREAD *, I\nPRINT *, I",
+            "1\r\n\n2,\n+03 4\n5\n 6",
+            0,
+            "3 2 1\n6\n= end done\n",
+        ),
+        (
+            "INTEGER A(3)\nREAD *, I, A(I)\nPRINT *, A(2), A(3)",
+            "2 9",
+            0,
+            "9 0\n= end done\n",
+        ),
+        (
+            "INTEGER A(2)\nREAD *, A(3)",
+            "",
+            1,
+            "= end fault subscript at line 3\n",
+        ),
+        ("READ *", "", 1, "= end fault input ended at line 2\n"),
+        // A fault within a line.
+        (
+            "PRINT *, 7, 1 / 0",
+            "",
+            1,
+            "7\n= end fault zero divisor at line 2\n",
+        ),
+        (
+            "PRINT *, 'a', '', 1 / 0",
+            "",
+            1,
+            "a \n= end fault zero divisor at line 2\n",
+        ),
+        (
+            "PRINT *, 'a'\nPRINT *, '', 1 / 0",
+            "",
+            1,
+            "a\n= end fault zero divisor at line 3\n",
+        ),
+        (
+            "PRINT *, '', 1 / 0",
+            "",
+            1,
+            "= end fault zero divisor at line 2\n",
+        ),
+    ] {
+        let mut files = one_file(rt.alloc(), program_of(rt.alloc(), between)?)?;
+        files.push((
+            String::from_str(rt.alloc(), "one.in")?,
+            input.as_bytes().to_vec(rt.alloc())?,
+        ))?;
+        let mut store = PlainStore::new(files);
+        let mut sink = MemSink::new(rt.alloc(), 1000, Vec::new(rt.alloc()))?;
+        let got = run_tool(rt.alloc(), &words, &mut store, &mut sink);
+        assert_eq!(rt; got, status, "{text}");
+        assert_eq!(rt; sink.bytes(), text.as_bytes(), "{text}");
+    }
+    Ok(())
+}
+
+#[test]
+fn an_input_has_its_limit(rt: HostRuntime) -> Result<(), Fail> {
+    let words = split_words(rt.alloc(), SEQ)?;
+    for (length, status, text) in [
+        (1048576, 0, SIX),
+        (1048577, 4, "refused input over 1048576 bytes\n"),
+    ] {
+        let mut files = one_file(rt.alloc(), ONE.as_bytes().to_vec(rt.alloc())?)?;
+        let mut input = Vec::new(rt.alloc());
+        input.resize(length, b' ')?;
+        files.push((String::from_str(rt.alloc(), "one.in")?, input))?;
+        let mut store = PlainStore::new(files);
+        let mut sink = MemSink::new(rt.alloc(), 1000, Vec::new(rt.alloc()))?;
+        let got = run_tool(rt.alloc(), &words, &mut store, &mut sink);
+        assert_eq!(rt; got, status, "{text}");
+        assert_eq!(rt; sink.bytes(), text.as_bytes(), "{text}");
+    }
+    Ok(())
+}
+
 #[test]
 fn other_words_are_told_the_usage(rt: HostRuntime) -> Result<(), Fail> {
     let mut lists = vec![in rt.alloc(); Vec::new(rt.alloc())]?;
@@ -357,6 +571,12 @@ fn other_words_are_told_the_usage(rt: HostRuntime) -> Result<(), Fail> {
         "check,a,b",
         "check,-x",
         "checks,a",
+        "seq",
+        "seq,a",
+        "seq,-x,b",
+        "seq,a,",
+        "seqs,a,b",
+        "seq,a,b,c",
         "run,a",
         "bench,0",
         "bench,1001",
@@ -383,6 +603,11 @@ fn faults_end_the_call(rt: HostRuntime) -> Result<(), Fail> {
         (CHECK, 1, 0, 1000, 5, ACCEPTED),
         (CHECK, 0, 1, 1000, 6, ACCEPTED),
         (CHECK, 0, 2, 1000, 6, ACCEPTED),
+        (SEQ, 1, 0, 1000, 5, SIX),
+        (SEQ, 3, 0, 1000, 5, SIX),
+        (SEQ, 0, 1, 1000, 6, SIX),
+        (SEQ, 0, 3, 1000, 6, SIX),
+        (SEQ, 0, 0, 3, 6, SIX),
     ] {
         let words = split_words(rt.alloc(), line)?;
         let files = files_of(rt.alloc(), [ONE, "", HEADER])?;

@@ -1,33 +1,25 @@
 // The top call: one command of a command line.
 ghost use Rattle.std.specs.Prelude.{◌≡◌, ℕ, List, map, string_bytes};
 ghost use Rattle.cdc_base.specs.Causes.{Rose};
-ghost use Rattle.cdc_top.specs.Answer.{Usage, Run, Check, run_of, check_of, command_of, is_name, IsAccepted, IsHeader, ScheduleAnswers, InputAnswers, InputFailed, IsTold, Only, Ended, ToolEnded, IsAnswered, IsCaused};
+ghost use Rattle.cdc_top.specs.Answer.{Usage, Run, Check, run_of, check_of, seq_of, command_of, is_name, IsAccepted, IsHeader, ScheduleAnswers, InputAnswers, InputFailed, IsTold, Only, Ended, ToolEnded, IsAnswered, IsCaused};
 ghost use Rattle.cdc_top.specs.Chosen.{chosen};
+ghost use Rattle.cdc_top.specs.Complete.{Completes};
 ghost use Rattle.cdc_top.specs.Laws.{MeansTheSource, HitsGiveMemory};
 ghost use Rattle.cdc_top.specs.Source.{Source as GivenSource};
 ghost use Rattle.cdc_top.specs.Words.{source_of};
 
 use crate::check::{check_source, say_refused};
-use crate::run::{OUT_OF_MEMORY, run_source, say};
+use crate::limits::{INPUT_LIMIT, SCHEDULE_LIMIT, SOURCE_LIMIT};
+use crate::run::{run_source, say};
 use crate::schedule::read_schedule;
+use crate::seq::seq_files;
 use crate::source::{Source, read_source};
+use crate::status::{INPUT_REFUSED, NO_COMMAND, OUT_OF_MEMORY, PROGRAM_REFUSED, READ_FAULT};
 use cdc_base::{ReadRefusal, Sink, Store, read_all};
 use cdc_check::CheckRefusal;
 use cdc_compile::Refusal;
 use cdc_prog::Kind;
 use std::alloc::Global;
-
-/// The status after a fault of a file.
-const READ_FAULT: u8 = 5;
-
-/// The bytes that a source may have.
-const SOURCE_LIMIT: u64 = 262_144;
-
-/// The bytes that an input may have.
-const INPUT_LIMIT: u64 = 1_048_576;
-
-/// The bytes that a schedule may have.
-const SCHEDULE_LIMIT: u64 = 16_777_216;
 
 const USAGE: &[u8] =
     b"usage: cdcc run PROG INPUT SCHED\n       cdcc check PROG\n       cdcc marks PROG\n       cdcc code PROG\n       cdcc seq PROG INPUT\n       cdcc bench N\n";
@@ -46,6 +38,8 @@ enum Command<'a> {
     Run(Names<'a>),
     /// The name of the program's file.
     Check(&'a str),
+    /// The names of the program's file and of the input's.
+    Seq(&'a str, &'a str),
     Usage,
 }
 
@@ -83,12 +77,25 @@ fn check_words<'a>(verb: &str, program: &'a str) -> Command<'a>
     }
 }
 
+fn seq_words<'a>(verb: &str, program: &'a str, input: &'a str) -> Command<'a>
+    ensures { chosen result ≡ seq_of verb.now program.now input.now }
+{
+    if verb == "seq" && names_file(program) && names_file(input) {
+        Command::Seq(program, input)
+    } else {
+        Command::Usage
+    }
+}
+
 // The command of the words.
 fn read_command(words: &[String]) -> Command<'_>
     ensures { chosen result ≡ command_of (map string_bytes words.now) }
 {
     if words.len() == 2 {
         return check_words(words[0].as_str(), words[1].as_str());
+    }
+    if words.len() == 3 {
+        return seq_words(words[0].as_str(), words[1].as_str(), words[2].as_str());
     }
     if words.len() != 4 {
         return Command::Usage;
@@ -117,9 +124,9 @@ fn run_schedule<S: Store, K: Sink>(
     match read_all(alloc, store, schedule, SCHEDULE_LIMIT) {
         Err(ReadRefusal::Memory) => OUT_OF_MEMORY,
         Err(ReadRefusal::Failed) => READ_FAULT,
-        Err(ReadRefusal::TooLong) => say(out, b"refused header line 1\n", 4),
+        Err(ReadRefusal::TooLong) => say(out, b"refused header line 1\n", INPUT_REFUSED),
         Ok(bytes) => match read_schedule(&bytes) {
-            None => say(out, b"refused header line 1\n", 4),
+            None => say(out, b"refused header line 1\n", INPUT_REFUSED),
             Some(bound) => run_source(alloc, source, bound, out),
         },
     }
@@ -142,10 +149,10 @@ fn run_input<S: Store, K: Sink>(
     match read_all(alloc, store, input, INPUT_LIMIT) {
         Err(ReadRefusal::Memory) => OUT_OF_MEMORY,
         Err(ReadRefusal::Failed) => READ_FAULT,
-        Err(ReadRefusal::TooLong) => say(out, b"refused input at 1:1\n", 4),
+        Err(ReadRefusal::TooLong) => say(out, b"refused input at 1:1\n", INPUT_REFUSED),
         Ok(bytes) => {
             if !bytes.is_empty() {
-                return say(out, b"refused input at 1:1\n", 4);
+                return say(out, b"refused input at 1:1\n", INPUT_REFUSED);
             }
             run_schedule(alloc, source, schedule, store, out)
         }
@@ -160,9 +167,13 @@ fn run_files<S: Store, K: Sink>(alloc: Global, names: Names<'_>, store: &mut S, 
     match read_all(alloc, store, names.program, SOURCE_LIMIT) {
         Err(ReadRefusal::Memory) => OUT_OF_MEMORY,
         Err(ReadRefusal::Failed) => READ_FAULT,
-        Err(ReadRefusal::TooLong) => say(out, b"refused NotAStatement at line 1\n", 3),
+        Err(ReadRefusal::TooLong) => say(
+            out,
+            b"refused NotAStatement at line 1\n",
+            PROGRAM_REFUSED,
+        ),
         Ok(bytes) => match read_source(&bytes) {
-            None => say(out, b"refused NotAStatement at line 1\n", 3),
+            None => say(out, b"refused NotAStatement at line 1\n", PROGRAM_REFUSED),
             Some(source) => run_input(alloc, source, names.input, names.schedule, store, out),
         },
     }
@@ -191,7 +202,8 @@ fn carry_out<S: Store, K: Sink>(alloc: Global, words: &[String], store: &mut S, 
     match read_command(words) {
         Command::Run(names) => run_files(alloc, names, store, out),
         Command::Check(program) => check_file(alloc, program, store, out),
-        Command::Usage => say(out, USAGE, 2),
+        Command::Seq(program, input) => seq_files(alloc, program, input, store, out),
+        Command::Usage => say(out, USAGE, NO_COMMAND),
     }
 }
 
@@ -200,8 +212,8 @@ fn carry_out<S: Store, K: Sink>(alloc: Global, words: &[String], store: &mut S, 
 ///
 /// | Status | Comes |
 /// |---|---|
-/// | 0 | the run is done, or the program is accepted |
-/// | 1 | the run ended with a fault |
+/// | 0 | the run or the program is done, or the program is accepted |
+/// | 1 | the run or the program ended with a fault |
 /// | 2 | the words are no command |
 /// | 3 | the program is refused |
 /// | 4 | the input or the schedule is refused |
@@ -218,6 +230,7 @@ pub fn run_tool<S: Store, K: Sink>(
     ensures bytes_and_status { IsAnswered (command_of (map string_bytes words.now.items)) (S.told store.old) result (K.taken out.old) (K.taken out.new) }
     ensures meaning { MeansTheSource }
     ensures hits { HitsGiveMemory }
+    ensures completeness { Completes (command_of (map string_bytes words.now.items)) (S.told store.old) result (S.faults store.old) (S.faults store.new) (K.faults out.old) (K.faults out.new) }
     ensures causes { IsCaused (command_of (map string_bytes words.now.items)) (S.told store.old) result (S.faults store.old) (S.faults store.new) (K.faults out.old) (K.faults out.new) }
 {
     carry_out(alloc, words, store, out)

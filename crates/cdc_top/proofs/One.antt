@@ -1,0 +1,91 @@
+-- `check` and `seq` have one answer, as a source has.
+use Rattle.std.proofs.Common.{◌≡◌, ◌≢◌, ℕ, ◌≤◌, List, [], ◌∷◌, length, sym, ◌∙◌, ap, subst, arith, inl, inr, Result, Ok, Err}
+use Rattle.std.specs.Prelude.{codes}
+use Rattle.std.proofs.lemmas.List.{length-map}
+use Rattle.cdc_base.specs.declared.place.Place.{Place}
+use Rattle.cdc_compile.specs.declared.refusal.Refusal.{Refusal}
+use Rattle.cdc_compile.specs.declared.refusal.Refusal.TheVariants.{Memory}
+use Rattle.cdc_compile.specs.Source.{IsProgramOf}
+use Rattle.cdc_compile.specs.Texts.{accepted_text, refusal_text, line, number}
+use Rattle.cdc_compile.proofs.OneAnswer.{one_answer}
+use Rattle.cdc_input.specs.Refusals.{IsNotAfter}
+use Rattle.cdc_prog.specs.declared.program.Program.{Program}
+use Rattle.cdc_prog.specs.Plain as plain
+use Rattle.cdc_prog.specs.Translation.{program_of, unit_of}
+use Rattle.cdc_top.specs.Answer.{IsRefusedWith, CheckAnswers, SeqAnswers}
+use Rattle.cdc_top.specs.Report.{Answer, answer}
+use Rattle.cdc_top.specs.Sequential.{InputIs, IsBadInput, input_bad}
+
+abbrev Ends : Type 0
+Ends = Result plain.Program Refusal
+
+abbrev refused : Refusal → Ends
+refused r = Err r
+
+abbrev accepts : plain.Program → Ends
+accepts p = Ok p
+
+not_memory : (r : Refusal) → r ≢ Memory → refused r ≢ refused Memory
+not_memory r other is = other cc
+
+-- a source that is refused is refused so alone
+one_refusal : (source : List ℕ) (a b : Answer) → IsRefusedWith source a → IsRefusedWith source b → b ≡ a
+one_refusal source a b (r, other, is, text) (s, unlike, same, words) =
+    let e : refused r ≡ refused s = one_answer source (refused r) (refused s) is same (not_memory r other) (not_memory s unlike) in
+    let f : r ≡ s = cc in
+    words ∙ ap (λ (t : Refusal). answer (refusal_text t) 3) (sym f) ∙ sym text
+
+-- and is not accepted
+pub none_accepted : (source : List ℕ) (a : Answer) (program : plain.Program) → IsRefusedWith source a → IsProgramOf source (Ok program) → ⊥
+none_accepted source a program (r, other, is, text) accepted =
+    let e : refused r ≡ accepts program = one_answer source (refused r) (accepts program) is accepted (not_memory r other) (λ e. cc e) in cc e
+
+pub one_program : (source : List ℕ) (p q : plain.Program) → IsProgramOf source (Ok p) → IsProgramOf source (Ok q) → p ≡ q
+one_program source p q is same = let e : accepts p ≡ accepts q = one_answer source (accepts p) (accepts q) is same (λ e. cc e) (λ e. cc e) in cc
+
+-- the text on a program depends on its plain trees alone
+abbrev plain_text : plain.Program → List ℕ
+plain_text p = line (
+    codes "accepted units " ∷ number (length p.units) ∷ codes " objects " ∷ number (length p.objects)
+    ∷ codes " words " ∷ number p.words ∷ codes " sites " ∷ number p.sites ∷ codes " doalls " ∷ number p.doalls ∷ [])
+
+text_is : (p : Program) → plain_text (program_of p) ≡ accepted_text p
+text_is p = ap (λ (n : ℕ). line (
+    codes "accepted units " ∷ number n ∷ codes " objects " ∷ number (length p.objects)
+    ∷ codes " words " ∷ number p.words ∷ codes " sites " ∷ number p.sites ∷ codes " doalls " ∷ number p.doalls ∷ [])) (length-map p.units unit_of)
+
+pub one_check : (source : List ℕ) (a b : Answer) → CheckAnswers source a → CheckAnswers source b → b ≡ a
+one_check source a b (inl refused) (inl other) = one_refusal source a b refused other
+one_check source a b (inl refused) (inr (q, is, text)) = absurd (none_accepted source a (program_of q) refused is)
+one_check source a b (inr (p, is, text)) (inl other) = absurd (none_accepted source b (program_of p) other is)
+one_check source a b (inr (p, is, text)) (inr (q, same, words)) =
+    let e : program_of p ≡ program_of q = one_program source (program_of p) (program_of q) is same in
+    words ∙ ap (λ (t : List ℕ). answer t 0) (sym (text_is q) ∙ ap plain_text (sym e) ∙ text_is p) ∙ sym text
+
+-- two least places are one
+one_place : (p q : Place) → IsNotAfter p q → IsNotAfter q p → p ≡ q
+one_place p q a b =
+    let l : p.line ≡ q.line = grind (arith, a, b) in
+    let c : p.column ≡ q.column = grind (arith, a, b) in λ k. record { line = l k; column = c k }
+
+one_bad : (bytes : List ℕ) (p q : Place) → IsBadInput bytes p → IsBadInput bytes q → p ≡ q
+one_bad bytes p q a b = one_place p q (a.fails.1 q b.fails.0) (b.fails.1 p a.fails.0)
+
+-- a good input has no fault, and one over its limit is neither good nor bad
+pub one_input : (program : plain.Program) (bytes : List ℕ) (a b : Answer) → InputIs program bytes a → InputIs program bytes b → b ≡ a
+one_input program bytes a b (inl (long, is)) (inl (more, same)) = same ∙ sym is
+one_input program bytes a b (inl (long, is)) (inr (inl (q, bad, same))) = absurd (let w : length bytes ≤ 1048576 = bad.within in omega (arith, long, w))
+one_input program bytes a b (inl (long, is)) (inr (inr (good, same))) = absurd (let w : length bytes ≤ 1048576 = good.within in omega (arith, long, w))
+one_input program bytes a b (inr (inl (p, bad, is))) (inl (more, same)) = absurd (let w : length bytes ≤ 1048576 = bad.within in omega (arith, more, w))
+one_input program bytes a b (inr (inl (p, bad, is))) (inr (inl (q, worse, same))) = same ∙ ap input_bad (one_bad bytes q p worse bad) ∙ sym is
+one_input program bytes a b (inr (inl (p, bad, is))) (inr (inr (good, same))) = absurd (good.no_fault p bad.fails.0)
+one_input program bytes a b (inr (inr (good, is))) (inl (more, same)) = absurd (let w : length bytes ≤ 1048576 = good.within in omega (arith, more, w))
+one_input program bytes a b (inr (inr (good, is))) (inr (inl (q, bad, same))) = absurd (good.no_fault q bad.fails.0)
+one_input program bytes a b (inr (inr (good, is))) (inr (inr (fine, same))) = same ∙ sym is
+
+pub one_seq : (source input : List ℕ) (a b : Answer) → SeqAnswers source input a → SeqAnswers source input b → b ≡ a
+one_seq source input a b (inl refused) (inl other) = one_refusal source a b refused other
+one_seq source input a b (inl refused) (inr (q, is, text)) = absurd (none_accepted source a q refused is)
+one_seq source input a b (inr (p, is, answered)) (inl other) = absurd (none_accepted source b p other is)
+one_seq source input a b (inr (p, is, answered)) (inr (q, same, words)) =
+    one_input p input a b answered (subst (λ (r : plain.Program). InputIs r input b) (one_program source q p same is) words)

@@ -1,0 +1,54 @@
+-- What a call promises where its files are told, nothing of them is refused and no count rose: the command is done, or memory ran out.
+use Rattle.std.specs.Prelude.{◌≡◌, ◌⊎◌, ℕ, List, [], Option, Some, Ok}
+use Rattle.cdc_base.specs.Causes.{Rose}
+use Rattle.cdc_compile.specs.Source.{IsProgramOf}
+use Rattle.cdc_input.specs.Records.{records_of}
+use Rattle.cdc_prog.specs.Meaning.{meaning}
+use Rattle.cdc_prog.specs.Plain.{Program}
+use Rattle.cdc_top.specs.Answer.{Command, Run, Check, Seq, Usage, Files, IsAccepted, IsHeader, ran}
+use Rattle.cdc_top.specs.Report.{outcome_of_end, status_of}
+use Rattle.cdc_top.specs.Sequential.{IsGoodInput}
+use Rattle.cdc_top.specs.Source.{Source}
+
+-- the store tells the bytes of each file of the command
+abbrev pub AllTold : Command → (List ℕ → Option (List ℕ)) → Files → Type 0
+AllTold (Run program input schedule) told files = (told program ≡ Some files.program) × (told input ≡ Some files.input) × (told schedule ≡ Some files.schedule)
+AllTold (Check program) told files = told program ≡ Some files.program
+AllTold (Seq program input) told files = (told program ≡ Some files.program) × (told input ≡ Some files.input)
+AllTold Usage told files = Unit {0}
+
+-- the source is accepted
+abbrev pub HasProgram : List ℕ → Type 0
+HasProgram source = (accepted : Program) × IsProgramOf source (Ok accepted)
+
+-- nothing of the files is refused
+abbrev pub AreGood : Command → Files → Type 0
+AreGood (Run program input schedule) files =
+    ((source : Source) × IsAccepted files.program source) × (files.input ≡ []) × ((bound : ℕ) × IsHeader files.schedule bound)
+AreGood (Check program) files = HasProgram files.program
+AreGood (Seq program input) files = HasProgram files.program × IsGoodInput files.input
+AreGood Usage files = Unit {0}
+
+abbrev pub Stayed : ℕ → ℕ → Type 0
+Stayed before now = Rose before now → ⊥
+
+-- the count of no file of the command rose
+abbrev pub AllStayed : Command → (before now : List ℕ → ℕ) → Type 0
+AllStayed (Run program input schedule) before now =
+    Stayed (before program) (now program) × Stayed (before input) (now input) × Stayed (before schedule) (now schedule)
+AllStayed (Check program) before now = Stayed (before program) (now program)
+AllStayed (Seq program input) before now = Stayed (before program) (now program) × Stayed (before input) (now input)
+AllStayed Usage before now = Unit {0}
+
+-- the status says that the command is done: how the run or the program ended, or that the program is accepted
+abbrev pub IsDone : Command → Files → (status : ℕ) → Type 0
+IsDone (Run program input schedule) files status =
+    (source : Source) × (bound : ℕ) × IsAccepted files.program source × IsHeader files.schedule bound × (status ≡ (ran source bound).status)
+IsDone (Check program) files status = status ≡ 0
+IsDone (Seq program input) files status =
+    (accepted : Program) × IsProgramOf files.program (Ok accepted) × (status ≡ status_of (outcome_of_end (meaning accepted (records_of files.input)).end))
+IsDone Usage files status = status ≡ 2
+
+abbrev pub Completes : Command → (told : List ℕ → Option (List ℕ)) → (status : ℕ) → (before now : List ℕ → ℕ) → (sink_before sink_now : ℕ) → Type 0
+Completes command told status before now sink_before sink_now =
+    (files : Files) → AllTold command told files → AreGood command files → AllStayed command before now → Stayed sink_before sink_now → IsDone command files status ⊎ (status ≡ 7)

@@ -1,0 +1,148 @@
+// The command `seq`: a program is carried out on one memory.
+ghost use Rattle.std.specs.Prelude.{◌≡◌, ◌≢◌, ◌∷◌, ◌++◌, ◌≤◌, [], Ok, length, if◌then◌else◌};
+ghost use Rattle.cdc_base.specs.Causes.{Rose};
+ghost use Rattle.cdc_compile.specs.Source.{IsProgramOf};
+ghost use Rattle.cdc_prog.specs.Meaning.{meaning};
+ghost use Rattle.cdc_prog.specs.Plain as plain;
+ghost use Rattle.cdc_prog.specs.Resolved.{IsResolved, IsSerial};
+ghost use Rattle.cdc_prog.specs.Translation.{program_of};
+ghost use Rattle.cdc_top.specs.Answer.{Seq, SeqAnswers, IsTold, Ended, ToolEnded, Said, SaidOneOf};
+ghost use Rattle.cdc_top.specs.Report.{answer, end_line, status_of};
+ghost use Rattle.cdc_top.specs.Sequential.{InputIs, carried_out, input_bad, input_limit};
+
+use crate::check::say_refused;
+use crate::limits::{INPUT_LIMIT, SOURCE_LIMIT};
+use crate::machine::Outcome;
+use crate::report::{status, write_closing};
+use crate::run::say;
+use crate::status::{INPUT_REFUSED, OUT_OF_MEMORY, READ_FAULT, WRITE_FAULT};
+use cdc_base::{Place, ReadRefusal, Sink, Store, read_all};
+use cdc_check::CheckRefusal;
+use cdc_compile::{Refusal, program};
+use cdc_input::{InputRecords, InputRefusal, records};
+use cdc_meaning::{Plain, run_lines};
+use cdc_prog::{Kind, Program};
+use cdc_text::{Text, write_texts};
+use std::alloc::Global;
+
+// Writes the line end that an output may lack, and how the program ended.
+fn close<K: Sink>(is_open: bool, outcome: Outcome, out: &mut K) -> u8
+    ensures written { result ≢ 7 }
+    ensures said { Said (answer ((if is_open then 10 ∷ [] else []) ++ end_line outcome) (status_of outcome)) result (K.taken out.old) (K.taken out.new) (K.faults out.old) (K.faults out.new) }
+{
+    match write_closing(out, is_open, outcome) {
+        Ok(()) => status(outcome),
+        Err(_) => WRITE_FAULT,
+    }
+}
+
+// Carries out a program on its records, and writes what it prints and how it ended.
+fn play<K: Sink>(alloc: Global, program: &Program, records: &InputRecords, out: &mut K) -> u8
+    requires resolved { IsResolved (program_of program.now) }
+    requires serial { IsSerial (program_of program.now) }
+    ensures { SaidOneOf (λ a. a ≡ carried_out (meaning (program_of program.now) records.now.records)) result (K.taken out.old) (K.taken out.new) (K.faults out.old) (K.faults out.new) }
+{
+    let ran = run_lines(alloc, program, records, out);
+    match ran.answer {
+        Plain::Done => close(ran.is_open, Outcome::Done, out),
+        Plain::Fault(kind, line) => close(ran.is_open, Outcome::Fault(kind, line), out),
+        Plain::SinkFault => WRITE_FAULT,
+        Plain::Memory => OUT_OF_MEMORY,
+    }
+}
+
+// Tells where an input is no input.
+fn say_bad_input<K: Sink>(place: Place, out: &mut K) -> u8
+    ensures { Said (input_bad place) result (K.taken out.old) (K.taken out.new) (K.faults out.old) (K.faults out.new) }
+{
+    let texts = [
+        Text::Words(b"refused input at "),
+        Text::Number(place.line as u64),
+        Text::Words(b":"),
+        Text::Number(place.column as u64),
+        Text::Words(b"\n"),
+    ];
+    match write_texts(out, &texts) {
+        Ok(()) => INPUT_REFUSED,
+        Err(_) => WRITE_FAULT,
+    }
+}
+
+// Carries out a program on the bytes of its input.
+fn play_input<K: Sink>(alloc: Global, program: &Program, input: &[u8], out: &mut K) -> u8
+    requires resolved { IsResolved (program_of program.now) }
+    requires serial { IsSerial (program_of program.now) }
+    requires within { length input.now ≤ input_limit }
+    ensures { SaidOneOf (InputIs (program_of program.now) input.now) result (K.taken out.old) (K.taken out.new) (K.faults out.old) (K.faults out.new) }
+{
+    match records(alloc, input) {
+        Ok(records) => play(alloc, program, &records, out),
+        Err(InputRefusal::BadNumber(place)) => say_bad_input(place, out),
+        Err(InputRefusal::Memory) => OUT_OF_MEMORY,
+    }
+}
+
+// Reads the input, and carries out the program on it.
+fn seq_program<S: Store, K: Sink>(
+    alloc: Global,
+    program: &Program,
+    input: &str,
+    store: &mut S,
+    out: &mut K,
+) -> u8
+    requires resolved { IsResolved (program_of program.now) }
+    requires serial { IsSerial (program_of program.now) }
+    ensures { Ended (λ files. IsTold (S.told store.old input.now) files.input) (λ files a. InputIs (program_of program.now) files.input a) (λ files a. InputIs (program_of program.now) files.input a)
+        (λ files. Rose (S.faults store.old input.now) (S.faults store.new input.now)) result
+        (K.taken out.old) (K.taken out.new) (S.faults store.old) (S.faults store.new) (K.faults out.old) (K.faults out.new) }
+{
+    match read_all(alloc, store, input, INPUT_LIMIT) {
+        Err(ReadRefusal::Memory) => OUT_OF_MEMORY,
+        Err(ReadRefusal::Failed) => READ_FAULT,
+        Err(ReadRefusal::TooLong) => {
+            say(out, b"refused input over 1048576 bytes\n", INPUT_REFUSED)
+        }
+        Ok(bytes) => play_input(alloc, program, &bytes, out),
+    }
+}
+
+// Goes on with the input where the source is accepted.
+fn seq_source<S: Store, K: Sink>(
+    alloc: Global,
+    source: &[u8],
+    input: &str,
+    store: &mut S,
+    out: &mut K,
+) -> u8
+    ensures { Ended (λ files. IsTold (S.told store.old input.now) files.input) (λ files a. SeqAnswers source.now files.input a) (λ files a. SeqAnswers source.now files.input a)
+        (λ files. (accepted : plain.Program) × IsProgramOf source.now (Ok accepted) × Rose (S.faults store.old input.now) (S.faults store.new input.now)) result
+        (K.taken out.old) (K.taken out.new) (S.faults store.old) (S.faults store.new) (K.faults out.old) (K.faults out.new) }
+{
+    match program(alloc, source) {
+        Ok(program) => seq_program(alloc, &program, input, store, out),
+        Err(Refusal::Memory) => OUT_OF_MEMORY,
+        Err(refusal) => say_refused(refusal, out),
+    }
+}
+
+/// Reads a program and its input, carries the program out on one memory, and writes what it prints and how it ended. All
+/// memory is taken before the first byte is written.
+pub fn seq_files<S: Store, K: Sink>(
+    alloc: Global,
+    program: &str,
+    input: &str,
+    store: &mut S,
+    out: &mut K,
+) -> u8
+    ensures { ToolEnded (Seq program.now input.now) (S.told store.old) result
+        (K.taken out.old) (K.taken out.new) (S.faults store.old) (S.faults store.new) (K.faults out.old) (K.faults out.new) }
+{
+    match read_all(alloc, store, program, SOURCE_LIMIT) {
+        Err(ReadRefusal::Memory) => OUT_OF_MEMORY,
+        Err(ReadRefusal::Failed) => READ_FAULT,
+        Err(ReadRefusal::TooLong) => {
+            say_refused(Refusal::Check(CheckRefusal::TooMany(Kind::Source)), out)
+        }
+        Ok(bytes) => seq_source(alloc, &bytes, input, store, out),
+    }
+}
