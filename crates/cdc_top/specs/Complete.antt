@@ -29,6 +29,7 @@ AreGood (Check program) files = HasProgram files.program
 AreGood (Seq program input) files = HasProgram files.program × IsGoodInput files.input
 AreGood Usage files = Unit {0}
 
+-- a count that did not rise
 abbrev pub Stayed : ℕ → ℕ → Type 0
 Stayed before now = Rose before now → ⊥
 
