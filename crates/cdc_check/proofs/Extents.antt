@@ -4,7 +4,7 @@ use Rattle.std.proofs.lemmas.Int.{ints}
 use Rattle.std.specs.Prelude.{if◌then◌else◌, nat_lt, ◌||◌, int_lt, pos, negsuc, ◌+ℤ◌, ◌-ℤ◌, is_some}
 use Rattle.std.specs.List.{All, list_any}
 use Rattle.cdc_base.specs.declared.place.Place.{Place}
-use Rattle.cdc_parse.specs.declared.form.Bound.{Bound}
+use Rattle.cdc_tree.specs.Forms.{PBound}
 use Rattle.cdc_prog.specs.declared.program.Dim.{Dim}
 use Rattle.cdc_prog.specs.declared.program.Object as object
 use Rattle.cdc_prog.specs.Data.{size_of}
@@ -79,11 +79,11 @@ dim_some (Some l) (Some k) h = extent_some l k h
 product_some : (a b : ℕ) → 0 < a → 0 < b → 0 < a * b
 product_some a b h k = grind arith
 
-size_some : (values : List (List ℕ × ℤ)) (bs : List Bound) → list_any (is_reversed values) bs ≡ false → 0 < size_of (map (dim values) bs)
+size_some : (values : List (List ℕ × ℤ)) (bs : List PBound) → list_any (is_reversed values) bs ≡ false → 0 < size_of (map (dim values) bs)
 size_some values [] h = omega arith
 size_some values (b ∷ bs) h =
     product_some ((dim values b).extent) (size_of (map (dim values) bs))
-    (dim_some (low_of values b.low) (constant values b.high) (or_left (is_reversed values b) (list_any (is_reversed values) bs) h))
+    (dim_some (low_of values b.0) (constant values b.1) (or_left (is_reversed values b) (list_any (is_reversed values) bs) h))
     (size_some values bs (or_right (is_reversed values b) (list_any (is_reversed values) bs) h))
 
 map_length : {A B : Type 0} (f : A → B) (xs : List A) → length (map f xs) ≡ length xs

@@ -1,13 +1,12 @@
 pub mod Capped
 pub mod Laid
-pub mod Trees
+pub mod Others
 pub mod Fitting
-pub mod Forms
 pub mod Stating
-pub mod Nodes
 pub mod Blocks
 pub mod Tables
 pub mod Extents
+pub mod Built
+pub mod Own
+pub mod Counting
 pub mod Accepted
-pub mod AlikeStatements
-pub mod Alike

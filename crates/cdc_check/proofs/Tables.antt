@@ -4,7 +4,7 @@ use Rattle.std.specs.Prelude.{if◌then◌else◌, is_some, slice_get, pos}
 use Rattle.std.specs.Str.{bytes_eq}
 use Rattle.std.proofs.lemmas.List.{length-append}
 use Rattle.std.proofs.lemmas.Slice.Eq.{bytes_eq-Decides}
-use Rattle.cdc_parse.specs.declared.form.Bound.{Bound}
+use Rattle.cdc_tree.specs.Forms.{PBound}
 use Rattle.cdc_prog.specs.declared.expr.Var.TheVariants.{Object}
 use Rattle.cdc_prog.specs.declared.program.Dim.{Dim}
 use Rattle.cdc_prog.specs.declared.program.Object as object
@@ -33,7 +33,7 @@ laid_dims : (b : ℕ) (xs ys : List Shape) (sh : Shape) → dims_in (slice_get (
 laid_dims b [] ys sh = refl
 laid_dims b (x ∷ xs) ys sh = laid_dims (b + size_of x.dims) xs ys sh
 
-numbered_small : (n : ℕ) → n < 1024 → numbered n ≡ n
+pub numbered_small : (n : ℕ) → n < 1024 → numbered n ≡ n
 numbered_small n h = grind arith
 
 -- ---- more objects
@@ -82,23 +82,23 @@ implied_grown unit n (u ∷ us) =
     (object_grown unit u.name [] n) (implied_grown unit (with_object unit u.name [] n) us)
 
 -- the dimensions agree with the sort
-rank_by : (values : List (List ℕ × ℤ)) (bs : List Bound) → length (map (dim values) bs) ≡ rank_of (Some (sort_by_dimensions (length bs)))
+rank_by : (values : List (List ℕ × ℤ)) (bs : List PBound) → length (map (dim values) bs) ≡ rank_of (Some (sort_by_dimensions (length bs)))
 rank_by values [] = refl
 rank_by values (b ∷ bs) = ap suc (mapped bs)
   where
-    mapped : (xs : List Bound) → length (map (dim values) xs) ≡ length xs
+    mapped : (xs : List PBound) → length (map (dim values) xs) ≡ length xs
     mapped [] = refl
     mapped (x ∷ xs) = ap suc (mapped xs)
 
 abbrev pub is_there : List (List ℕ × Meaning) → List ℕ → Type 0
 is_there names m = is_some (found m names) ≡ true
 
-module _ (F : List Shape) (small : length F ≤ 1024) where
+module _ (F : List Shape) (small : length F ≤ 1024) (shapes : List (List Dim)) (slots : ℕ) where
   abbrev pub os : List object.Object
   os = laid_from 0 F
 
   abbrev Fit : Option Meaning → Option Sort → Type 0
-  Fit = Agrees os [] []
+  Fit = Agrees os shapes slots
 
   -- a declared name stands for something, and no other does
   abbrev pub Entry : Option Meaning → Option Sort → Type 0

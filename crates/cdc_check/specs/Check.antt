@@ -1,14 +1,15 @@
 -- The resolved program, or the first refusal: the kinds in their order.
-use Rattle.std.specs.Prelude.{ℕ, Bool, nat_lt, List, map, length, Option, Some, None, Result, Ok, Err, if◌then◌else◌}
+use Rattle.std.specs.Prelude.{ℕ, ◌+◌, Bool, nat_lt, List, map, length, Option, Some, None, Result, Ok, Err, if◌then◌else◌}
 use Rattle.std.specs.List.{list_any}
-use Rattle.cdc_parse.specs.declared.unit.UnitText.{UnitText}
+use Rattle.cdc_tree.specs.Units.{PUnit}
 use Rattle.cdc_prog.specs.declared.program.Kind.{Kind}
 use Rattle.cdc_prog.specs.declared.program.Kind.TheVariants.{Units, Dummies, Privates, Objects, Sites}
 use Rattle.cdc_prog.specs.declared.program.Object.{Object}
+use Rattle.cdc_prog.specs.Limits.{limit}
+use Rattle.cdc_prog.specs.Numbered.{program_numbered}
 use Rattle.cdc_prog.specs.Plain as plain
-use Rattle.cdc_names.specs.declared.scope.Scope.{Scope}
 use Rattle.cdc_names.specs.Places.{first_of}
-use Rattle.cdc_names.specs.Scopes.{scope_of}
+use Rattle.cdc_names.specs.Scopes.{PScope, scope_of}
 use Rattle.cdc_names.specs.Undeclared.{undeclared_in}
 use Rattle.cdc_names.specs.Duplicates.{duplicate_in, dummy_names, slot_lists}
 use Rattle.cdc_names.specs.NotConstant.{not_constant_in}
@@ -23,7 +24,7 @@ use Rattle.cdc_check.specs.Refusals.{or_else}
 use Rattle.cdc_check.specs.Units.{Whole, units_from, nothing_yet, main_from}
 
 -- the refusals of names, in order
-abbrev pub names_refused : List UnitText → List Scope → Option CheckRefusal
+abbrev pub names_refused : List PUnit → List PScope → Option CheckRefusal
 names_refused us ss =
     or_else (first_of undeclared_in ss) Undeclared
     (or_else (duplicate_in us) (λ p. Duplicate p.0 p.1)
@@ -35,38 +36,36 @@ names_refused us ss =
 abbrev pub over : Bool → Kind → Option CheckRefusal → Option CheckRefusal
 over b kind later = if b then Some (TooMany kind) else later
 
--- at most 64 units, 32 dummies of a unit, and 32 private names of a DOALL, whose slots are these and the index
-abbrev pub counts_refused : List UnitText → Option CheckRefusal
+-- units, dummies of a unit, and private names of a DOALL, whose slots are these and the index
+abbrev pub counts_refused : List PUnit → Option CheckRefusal
 counts_refused us =
-    over (nat_lt 64 (length us)) Units
-    (over (list_any (λ u. nat_lt 32 (length (dummy_names u.head.form))) us) Dummies
-    (over (list_any (λ ns. nat_lt 33 (length ns)) (slot_lists us)) Privates None))
+    over (nat_lt (limit Units) (length us)) Units
+    (over (list_any (λ u. nat_lt (limit Dummies) (length (dummy_names u.head.form))) us) Dummies
+    (over (list_any (λ ns. nat_lt (limit Privates + 1) (length ns)) (slot_lists us)) Privates None))
 
--- at most 16384 sites
 abbrev pub program_with : ℕ → List plain.ProgramUnit → Progress → List Object × ℕ → Result plain.Program CheckRefusal
 program_with main units k laid =
-    if nat_lt 16384 k.sites then Err (TooMany Sites)
-    else Ok (record { units = units; main = main; objects = laid.0; texts = k.texts; sites = k.sites; doalls = k.doalls; words = laid.1 })
+    if nat_lt (limit Sites) k.sites then Err (TooMany Sites)
+    else Ok (program_numbered (record { units = units; main = main; objects = laid.0; texts = k.texts; sites = k.sites; doalls = k.doalls; words = laid.1 }))
 
 abbrev pub with_layout : ℕ → List plain.ProgramUnit → Progress → Result (List Object × ℕ) CheckRefusal → Result plain.Program CheckRefusal
 with_layout main units k (Err refusal) = Err refusal
 with_layout main units k (Ok laid) = program_with main units k laid
 
--- at most 1024 objects
 abbrev pub finished : ℕ → List plain.ProgramUnit × Whole → Result plain.Program CheckRefusal
 finished main r =
-    if nat_lt 1024 (length r.1.objects) then Err (TooMany Objects)
+    if nat_lt (limit Objects) (length r.1.objects) then Err (TooMany Objects)
     else with_layout main r.0 r.1.progress (layout r.1.objects)
 
 abbrev pub unless_refused : Option CheckRefusal → Result plain.Program CheckRefusal → Result plain.Program CheckRefusal
 unless_refused (Some refusal) program = Err refusal
 unless_refused None program = program
 
-abbrev pub checked_in : List UnitText → List Scope → Result plain.Program CheckRefusal
+abbrev pub checked_in : List PUnit → List PScope → Result plain.Program CheckRefusal
 checked_in us ss =
     unless_refused (names_refused us ss)
     (unless_refused (counts_refused us)
     (finished (main_from 0 us) (each (units_from 0 us ss) nothing_yet)))
 
-abbrev pub checked : List UnitText → Result plain.Program CheckRefusal
+abbrev pub checked : List PUnit → Result plain.Program CheckRefusal
 checked us = checked_in us (map scope_of us)

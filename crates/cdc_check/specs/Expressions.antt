@@ -1,11 +1,10 @@
 -- What expressions resolve to, from the last site on: the tree, and the last site after it.
-use Rattle.std.specs.Prelude.{ℕ, ℤ, pos, List, [], ◌∷◌, map, Option, Some, if◌then◌else◌}
+use Rattle.std.specs.Prelude.{ℕ, ℤ, pos, List, [], ◌∷◌, Option, Some, if◌then◌else◌}
 use Rattle.cdc_base.specs.declared.place.Place.{Place}
-use Rattle.cdc_parse.specs.declared.tree.Named.{Named}
-use Rattle.cdc_parse.specs.declared.tree.Intrinsic.{Intrinsic}
-use Rattle.cdc_parse.specs.declared.tree.Intrinsic.TheVariants.{Abs, Mod, Min, Max}
-use Rattle.cdc_parse.specs.declared.tree.Tree.{Tree, fold-Tree}
-use Rattle.cdc_parse.specs.declared.tree.Tree.TheOpen.{Tree-F}
+use Rattle.cdc_tree.specs.declared.tree.Named.{Named}
+use Rattle.cdc_tree.specs.declared.tree.Intrinsic.{Intrinsic}
+use Rattle.cdc_tree.specs.declared.tree.Intrinsic.TheVariants.{Abs, Mod, Min, Max}
+use Rattle.cdc_tree.specs.Plain.{Plain, PNumber, PName, PApply, PParen, PPlus, PUn, PBin, PKnown, Plains, PEnd, PMore}
 use Rattle.cdc_prog.specs.declared.expr.UnOp.TheVariants as un
 use Rattle.cdc_prog.specs.declared.expr.BinOp.TheVariants as bin
 use Rattle.cdc_prog.specs.Plain as plain
@@ -13,7 +12,7 @@ use Rattle.cdc_prog.specs.Value.{is_value}
 use Rattle.cdc_prog.specs.Translation.{listed}
 use Rattle.cdc_check.specs.declared.meaning.Meaning.{Meaning}
 use Rattle.cdc_check.specs.declared.meaning.Meaning.TheVariants.{Number}
-use Rattle.cdc_check.specs.Threads.{on, each}
+use Rattle.cdc_check.specs.Threads.{on}
 use Rattle.cdc_check.specs.Meanings.{Surroundings, meaning_of, var_in, var_of, reference, sites_after}
 
 -- every number of a source is a value
@@ -59,18 +58,18 @@ subscripted s n [] k = name_expr (meaning_of s n.name) n.place k
 subscripted s n (e ∷ es) k = (plain.Element (reference (var_of s n) n.place k) (listed (e ∷ es)), sites_after (var_of s n) k)
 
 -- parentheses and the sign + are gone
-abbrev pub expr_step : Surroundings → Tree-F (ℕ → plain.Expr × ℕ) → ℕ → plain.Expr × ℕ
-expr_step s (Tree-F.Number place n) k = (literal n, k)
-expr_step s (Tree-F.Name n) k = name_expr (meaning_of s n.name) n.place k
-expr_step s (Tree-F.Apply n subs) k = on (each subs k) (subscripted s n)
-expr_step s (Tree-F.Paren place a) k = a.value k
-expr_step s (Tree-F.Plus place a) k = a.value k
-expr_step s (Tree-F.Un place op a) k = on (a.value k) (λ a k. (plain.Un op a, k))
-expr_step s (Tree-F.Bin op a b) k = on (a.value k) (λ a k. on (b.value k) (λ b k. (plain.Bin op a b, k)))
-expr_step s (Tree-F.Known place which args) k = applied which (each args k)
+abbrev mutual
+  pub resolved : Surroundings → Plain → ℕ → plain.Expr × ℕ
+  resolved s (PNumber place n) k = (literal n, k)
+  resolved s (PName n) k = name_expr (meaning_of s n.name) n.place k
+  resolved s (PApply n subs) k = on (resolved_in s subs k) (subscripted s n)
+  resolved s (PParen place a) k = resolved s a k
+  resolved s (PPlus place a) k = resolved s a k
+  resolved s (PUn place op a) k = on (resolved s a k) (λ e m. (plain.Un op e, m))
+  resolved s (PBin op a b) k = on (resolved s a k) (λ e m. on (resolved s b m) (λ f n. (plain.Bin op e f, n)))
+  resolved s (PKnown place which args) k = applied which (resolved_in s args k)
 
-abbrev pub resolved : Surroundings → Tree → ℕ → plain.Expr × ℕ
-resolved s = fold-Tree (ℕ → plain.Expr × ℕ) (expr_step s)
-
-abbrev pub resolved_in : Surroundings → List Tree → ℕ → List plain.Expr × ℕ
-resolved_in s ts = each (map (resolved s) ts)
+  -- several expressions, in order
+  pub resolved_in : Surroundings → Plains → ℕ → List plain.Expr × ℕ
+  resolved_in s PEnd k = ([], k)
+  resolved_in s (PMore a more) k = on (resolved s a k) (λ e m. on (resolved_in s more m) (λ es n. (e ∷ es, n)))

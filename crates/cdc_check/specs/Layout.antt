@@ -3,6 +3,7 @@ use Rattle.std.specs.Prelude.{ℕ, ◌+◌, nat_lt, List, [], ◌∷◌, Result,
 use Rattle.cdc_prog.specs.declared.program.Object.{Object}
 use Rattle.cdc_prog.specs.declared.program.Kind.TheVariants.{Words}
 use Rattle.cdc_prog.specs.Data.{size_of}
+use Rattle.cdc_prog.specs.Limits.{limit}
 use Rattle.cdc_check.specs.declared.progress.Shape.{Shape}
 use Rattle.cdc_check.specs.declared.refusal.CheckRefusal.{CheckRefusal}
 use Rattle.cdc_check.specs.declared.refusal.CheckRefusal.TheVariants.{TooMany}
@@ -18,6 +19,5 @@ abbrev pub words_of : List Shape → ℕ
 words_of [] = 0
 words_of (s ∷ ss) = size_of s.dims + words_of ss
 
--- memory has at most 4194304 words
 abbrev pub layout : List Shape → Result (List Object × ℕ) CheckRefusal
-layout shapes = if nat_lt 4194304 (words_of shapes) then Err (TooMany Words) else Ok (laid_from 0 shapes, words_of shapes)
+layout shapes = if nat_lt (limit Words) (words_of shapes) then Err (TooMany Words) else Ok (laid_from 0 shapes, words_of shapes)

@@ -7,4 +7,5 @@ pub mod Layout
 pub mod Refusals
 pub mod Units
 pub mod Check
+pub mod Built
 pub mod Laws

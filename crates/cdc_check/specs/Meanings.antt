@@ -2,7 +2,7 @@
 use Rattle.std.specs.Prelude.{ℕ, List, [], ◌∷◌, Option, Some, None, if◌then◌else◌}
 use Rattle.std.specs.Str.{bytes_eq}
 use Rattle.cdc_base.specs.declared.place.Place.{Place}
-use Rattle.cdc_parse.specs.declared.tree.Named.{Named}
+use Rattle.cdc_tree.specs.declared.tree.Named.{Named}
 use Rattle.cdc_prog.specs.declared.expr.Ref.{Ref}
 use Rattle.cdc_prog.specs.declared.expr.Var.{Var}
 use Rattle.cdc_prog.specs.declared.expr.Var.TheVariants.{Object, Slot}

@@ -1,12 +1,14 @@
 -- The objects of a unit: its declared variables, then the implicit ones in order of first appearance.
-use Rattle.std.specs.Prelude.{ℕ, nat_lt, ℤ, pos, ◌+ℤ◌, ◌-ℤ◌, List, [], ◌∷◌, ◌++◌, map, length, Option, Some, None, is_some, if◌then◌else◌}
-use Rattle.cdc_parse.specs.declared.form.Bound.{Bound}
+use Rattle.std.specs.Prelude.{ℕ, ◌+◌, nat_lt, ℤ, pos, ◌+ℤ◌, ◌-ℤ◌, List, [], ◌∷◌, ◌++◌, map, length, Option, Some, None, is_some, if◌then◌else◌}
+use Rattle.cdc_tree.specs.Forms.{PBound}
 use Rattle.cdc_prog.specs.declared.expr.Var.TheVariants.{Object}
 use Rattle.cdc_prog.specs.declared.program.Dim.{Dim}
+use Rattle.cdc_prog.specs.declared.program.Kind.TheVariants.{Words}
+use Rattle.cdc_prog.specs.Limits.{limit}
 use Rattle.cdc_prog.specs.Value.{at_least_zero}
-use Rattle.cdc_names.specs.declared.scope.Scope.{Scope}
 use Rattle.cdc_names.specs.Constants.{constant}
 use Rattle.cdc_names.specs.Declarations.{Declares}
+use Rattle.cdc_names.specs.Scopes.{PScope}
 use Rattle.cdc_names.specs.Shapes.{low_of}
 use Rattle.cdc_names.specs.Table.{found, added, placed}
 use Rattle.cdc_names.specs.Used.{Used}
@@ -17,7 +19,7 @@ use Rattle.cdc_check.specs.Threads.{numbered}
 
 -- one more than the words of memory that a program may have; more is counted as this
 abbrev pub capped : ℕ → ℕ
-capped n = if nat_lt 4194305 n then 4194305 else n
+capped n = if nat_lt (limit Words + 1) n then limit Words + 1 else n
 
 abbrev pub extent : ℤ → ℤ → ℕ
 extent low high = capped (at_least_zero ((high -ℤ low) +ℤ pos 1))
@@ -27,8 +29,8 @@ dim_between (Some low) (Some high) = record { low = low; extent = extent low hig
 dim_between low high = record { low = pos 0; extent = 1 }
 
 -- the lower bound of a dimension and its number of positions
-abbrev pub dim : List (List ℕ × ℤ) → Bound → Dim
-dim values b = dim_between (low_of values b.low) (constant values b.high)
+abbrev pub dim : List (List ℕ × ℤ) → PBound → Dim
+dim values b = dim_between (low_of values b.0) (constant values b.1)
 
 -- what names stand for, and the objects of the program so far
 pub record Naming : Type 0 where
@@ -67,5 +69,5 @@ implied_from unit n [] = n
 implied_from unit n (u ∷ us) = implied_from unit (with_object unit u.name [] n) us
 
 -- what the names of a unit stand for, and the objects after it
-abbrev pub named_in : ℕ → Scope → List Shape → Naming
+abbrev pub named_in : ℕ → PScope → List Shape → Naming
 named_in unit s objects = implied_from unit (declared_from unit s.values (naming [] objects) s.declarations) s.uses

@@ -1,17 +1,9 @@
 -- What statements resolve to, in the order of the template code: the tree, and the numbers after it.
 use Rattle.std.specs.Prelude.{ℕ, pos, List, [], ◌∷◌, ◌++◌, map, length, Option, Some, None}
-use Rattle.cdc_parse.specs.declared.tree.Named.{Named}
-use Rattle.cdc_parse.specs.declared.tree.Tree.{Tree}
-use Rattle.cdc_parse.specs.declared.form.Spot.{Spot}
-use Rattle.cdc_parse.specs.declared.form.Loop.{Loop}
-use Rattle.cdc_parse.specs.declared.form.Shown.{Shown}
-use Rattle.cdc_parse.specs.declared.form.Shown.TheVariants as shown
-use Rattle.cdc_parse.specs.declared.form.Form.{Form, fold-Form, IfThen, ElseIf, Do, Doall}
-use Rattle.cdc_parse.specs.declared.form.Form.TheOpen.{Form-F, Statement-F}
-use Rattle.cdc_parse.specs.declared.form.Statement.{Statement, fold-Statement}
-use Rattle.cdc_parse.specs.declared.unit.Branch.{Branch, fold-Branch}
-use Rattle.cdc_parse.specs.declared.unit.Node.{Node, fold-Node}
-use Rattle.cdc_parse.specs.declared.unit.Node.TheOpen.{Node-F, Branch-F}
+use Rattle.cdc_tree.specs.declared.tree.Named.{Named}
+use Rattle.cdc_tree.specs.Plain.{Plain, plains}
+use Rattle.cdc_tree.specs.Forms.{PSpot, PLoop, PShown, PText, PValue, PStatement, PForm, FAssign, FIfThen, FElseIf, FLogicalIf, FDo, FDoall, FPrint, FRead}
+use Rattle.cdc_tree.specs.Units.{PNode, NPlain, NIf, NElse, NLoop, PBody, Empty, More, PBranches, BNone, BMore}
 use Rattle.cdc_prog.specs.Plain as plain
 use Rattle.cdc_prog.specs.Translation.{listed, chain, in_arms}
 use Rattle.cdc_check.specs.declared.progress.Progress.{Progress}
@@ -23,129 +15,104 @@ abbrev pub at_site : ℕ → Progress → Progress
 at_site n k = record k { sites = n }
 
 -- the subscripts of a target, the value, the store
-abbrev pub assigned : ℕ → Surroundings → Spot → Tree → ℕ → plain.Stmt × ℕ
+abbrev pub assigned : ℕ → Surroundings → PSpot → Plain → ℕ → plain.Stmt × ℕ
 assigned line s spot value k =
-    on (resolved_in s spot.subs k) (λ subs m. on (resolved s value m) (λ v n.
-    (plain.Assign line (record { at = reference (var_of s spot.name) spot.name.place n; subs = listed subs }) v, sites_after (var_of s spot.name) n)))
+    on (resolved_in s (plains spot.1) k) (λ subs m. on (resolved s value m) (λ v n.
+    (plain.Assign line (record { at = reference (var_of s spot.0) spot.0.place n; subs = listed subs }) v, sites_after (var_of s spot.0) n)))
 
 -- the subscripts of a target, the store
-abbrev pub target : Surroundings → Spot → ℕ → plain.Target × ℕ
+abbrev pub target : Surroundings → PSpot → ℕ → plain.Target × ℕ
 target s spot k =
-    on (resolved_in s spot.subs k) (λ subs n.
-    (record { at = reference (var_of s spot.name) spot.name.place n; subs = listed subs }, sites_after (var_of s spot.name) n))
+    on (resolved_in s (plains spot.1) k) (λ subs n.
+    (record { at = reference (var_of s spot.0) spot.0.place n; subs = listed subs }, sites_after (var_of s spot.0) n))
 
-abbrev pub targets : Surroundings → List Spot → ℕ → List plain.Target × ℕ
+abbrev pub targets : Surroundings → List PSpot → ℕ → List plain.Target × ℕ
 targets s spots = each (map (target s) spots)
 
 -- each text has a number of its own
 abbrev pub with_text : List ℕ → Progress → ℕ × Progress
 with_text text k = (numbered (length k.texts), record k { texts = k.texts ++ text ∷ [] })
 
-abbrev pub item : Surroundings → Shown → Progress → plain.Item × Progress
-item s (shown.Text text) k = on (with_text text k) (λ n m. (plain.Text n, m))
-item s (shown.Value t) k = on (resolved s t k.sites) (λ e n. (plain.Value e, at_site n k))
+abbrev pub item : Surroundings → PShown → Progress → plain.Item × Progress
+item s (PText text) k = on (with_text text k) (λ n m. (plain.Text n, m))
+item s (PValue t) k = on (resolved s t k.sites) (λ e n. (plain.Value e, at_site n k))
 
-abbrev pub items : Surroundings → List Shown → Progress → List plain.Item × Progress
+abbrev pub items : Surroundings → List PShown → Progress → List plain.Item × Progress
 items s shown = each (map (item s) shown)
 
 -- the statement within a logical IF has the line of the IF
-abbrev pub form_step : Form-F (ℕ → Surroundings → Progress → plain.Stmt × Progress) (ℕ → Surroundings → Progress → plain.Stmt × Progress) → ℕ → Surroundings → Progress → plain.Stmt × Progress
-form_step (Form-F.Assign spot value) line s k = on (assigned line s spot value k.sites) (λ st n. (st, at_site n k))
-form_step (Form-F.LogicalIf cond st) line s k =
-    on (resolved s cond k.sites) (λ c n. on (st.value line s (at_site n k)) (λ body m.
+abbrev pub formed : PForm → ℕ → Surroundings → Progress → plain.Stmt × Progress
+formed (FAssign spot value) line s k = on (assigned line s spot value k.sites) (λ st n. (st, at_site n k))
+formed (FLogicalIf cond place simple) line s k =
+    on (resolved s cond k.sites) (λ c n. on (formed simple line s (at_site n k)) (λ body m.
     (plain.If (plain.Arm line c (chain (body ∷ [])) plain.Skip), m)))
-form_step (Form-F.Print shown) line s k = on (items s shown k) (λ is m. (plain.Print line is, m))
-form_step (Form-F.Read spots) line s k = on (targets s spots k.sites) (λ ts n. (plain.Read line ts, at_site n k))
-form_step _ line s k = (plain.If plain.Skip, k)
-
-abbrev pub statement_step : Statement-F (ℕ → Surroundings → Progress → plain.Stmt × Progress) (ℕ → Surroundings → Progress → plain.Stmt × Progress) → ℕ → Surroundings → Progress → plain.Stmt × Progress
-statement_step st = st.form
-
-abbrev pub formed : Form → ℕ → Surroundings → Progress → plain.Stmt × Progress
-formed = fold-Form (ℕ → Surroundings → Progress → plain.Stmt × Progress) (ℕ → Surroundings → Progress → plain.Stmt × Progress) form_step statement_step
-
-abbrev pub stated : Statement → ℕ → Surroundings → Progress → plain.Stmt × Progress
-stated = fold-Statement (ℕ → Surroundings → Progress → plain.Stmt × Progress) (ℕ → Surroundings → Progress → plain.Stmt × Progress) form_step statement_step
+formed (FPrint shown) line s k = on (items s shown k) (λ is m. (plain.Print line is, m))
+formed (FRead spots) line s k = on (targets s spots k.sites) (λ ts n. (plain.Read line ts, at_site n k))
+formed _ line s k = (plain.If plain.Skip, k)
 
 -- a missing step is 1
-abbrev pub step_expr : Surroundings → Option Tree → ℕ → plain.Expr × ℕ
+abbrev pub step_expr : Surroundings → Option Plain → ℕ → plain.Expr × ℕ
 step_expr s None k = (plain.Number (pos 1), k)
 step_expr s (Some t) k = resolved s t k
 
-abbrev pub controls : ℕ → Surroundings → Loop → ℕ → plain.Control × ℕ
+abbrev pub controls : ℕ → Surroundings → PLoop → ℕ → plain.Control × ℕ
 controls line s l k =
-    on (resolved s l.from k) (λ a k. on (resolved s l.to k) (λ b k. on (step_expr s l.by k) (λ c k.
+    on (resolved s l.1 k) (λ a k. on (resolved s l.2 k) (λ b k. on (step_expr s l.3 k) (λ c k.
     (record { line = line; from = a; to = b; by = c }, k))))
 
-abbrev pub body_in : Surroundings → List (Surroundings → Progress → plain.Stmt × Progress) → Progress → List plain.Stmt × Progress
-body_in s body = each (map (λ f. f s) body)
+-- what the statements of a body resolve to
+abbrev pub Resolves : Type 0
+Resolves = Surroundings → Progress → List plain.Stmt × Progress
 
 -- the variable of a DO has three sites: the first store, and after the body the load and the store that raise it
-abbrev pub counted : ℕ → Surroundings → Loop → List (Surroundings → Progress → plain.Stmt × Progress) → Progress → plain.Stmt × Progress
-counted line s l body k =
+abbrev pub counted : ℕ → Surroundings → PLoop → Resolves → Progress → plain.Stmt × Progress
+counted line s l inner k =
     on (controls line s l k.sites) (λ c n.
-    on (body_in s body (at_site (sites_after (var_of s l.var) n) k)) (λ b m. (
-      plain.Do c (reference (var_of s l.var) l.var.place n) (chain b)
-          (reference (var_of s l.var) l.var.place m.sites)
-          (reference (var_of s l.var) l.var.place (sites_after (var_of s l.var) m.sites)),
-      at_site (sites_after (var_of s l.var) (sites_after (var_of s l.var) m.sites)) m,
+    on (inner s (at_site (sites_after (var_of s l.0) n) k)) (λ b m. (
+      plain.Do c (reference (var_of s l.0) l.0.place n) (chain b)
+          (reference (var_of s l.0) l.0.place m.sites)
+          (reference (var_of s l.0) l.0.place (sites_after (var_of s l.0) m.sites)),
+      at_site (sites_after (var_of s l.0) (sites_after (var_of s l.0) m.sites)) m,
     )))
 
 abbrev pub with_doall : ℕ → Progress → Progress
 with_doall n k = record k { sites = n; doalls = next k.doalls }
 
 -- the controls mean the names outside; the slots are the index and the private names
-abbrev pub parallel : ℕ → Surroundings → Loop → List Named → List (Surroundings → Progress → plain.Stmt × Progress) → Progress → plain.Stmt × Progress
-parallel line s l privates body k =
+abbrev pub parallel : ℕ → Surroundings → PLoop → List Named → Resolves → Progress → plain.Stmt × Progress
+parallel line s l privates inner k =
     on (controls line s l k.sites) (λ c n.
-    on (body_in (surroundings s.names (l.var ∷ privates)) body (with_doall n k)) (λ b m.
+    on (inner (surroundings s.names (l.0 ∷ privates)) (with_doall n k)) (λ b m.
     (plain.Doall c (next k.doalls) (next (numbered (length privates))) (chain b), m)))
 
-abbrev pub looped : ℕ → Form → List (Surroundings → Progress → plain.Stmt × Progress) → Surroundings → Progress → plain.Stmt × Progress
-looped line (Do l) body s k = counted line s l body k
-looped line (Doall l privates) body s k = parallel line s l privates body k
-looped line _ body s k = (plain.If plain.Skip, k)
-
--- a branch of an IF: its head, and what its statements resolve to
-pub record Part : Type 0 where
-  pub head : Statement
-  pub body : List (Surroundings → Progress → plain.Stmt × Progress)
+abbrev pub looped : ℕ → PForm → Resolves → Surroundings → Progress → plain.Stmt × Progress
+looped line (FDo l) inner s k = counted line s l inner k
+looped line (FDoall l privates) inner s k = parallel line s l privates inner k
+looped line _ inner s k = (plain.If plain.Skip, k)
 
 -- an ELSE has no condition
-abbrev pub condition : Form → Surroundings → ℕ → plain.Expr × ℕ
-condition (IfThen c) s k = resolved s c k
-condition (ElseIf c) s k = resolved s c k
+abbrev pub condition : PForm → Surroundings → ℕ → plain.Expr × ℕ
+condition (FIfThen c) s k = resolved s c k
+condition (FElseIf c) s k = resolved s c k
 condition _ s k = (plain.Number (pos 1), k)
 
-abbrev pub arm : Surroundings → Part → Progress → (plain.Stmt → plain.Stmt) × Progress
-arm s part k =
-    on (condition part.head.form s k.sites) (λ c n. on (body_in s part.body (at_site n k)) (λ b m.
-    (plain.Arm part.head.place.line c (chain b), m)))
+-- a branch of an IF, before what comes where no condition holds
+abbrev pub arm : PStatement → Resolves → Surroundings → Progress → (plain.Stmt → plain.Stmt) × Progress
+arm head inner s k =
+    on (condition head.form s k.sites) (λ c n. on (inner s (at_site n k)) (λ b m. (plain.Arm head.place.line c (chain b), m)))
 
-abbrev pub arms : Surroundings → List Part → Progress → List (plain.Stmt → plain.Stmt) × Progress
-arms s parts = each (map (arm s) parts)
+abbrev mutual
+  pub noded : PNode → Surroundings → Progress → plain.Stmt × Progress
+  noded (NPlain st) s k = formed st.form st.place.line s k
+  noded (NIf branches end) s k = on (arms_in branches s k) (λ arms m. (plain.If (in_arms arms plain.Skip), m))
+  noded (NElse branches head other end) s k =
+      on (arms_in branches s k) (λ arms m. on (nodes_in other s m) (λ rest n. (plain.If (in_arms arms (chain rest)), n)))
+  noded (NLoop head inner end) s k = looped head.place.line head.form (nodes_in inner) s k
 
-abbrev pub other : Surroundings → Option Part → Progress → plain.Stmt × Progress
-other s None k = (plain.Skip, k)
-other s (Some part) k = on (body_in s part.body k) (λ b m. (chain b, m))
+  pub nodes_in : PBody → Surroundings → Progress → List plain.Stmt × Progress
+  nodes_in Empty s k = ([], k)
+  nodes_in (More n rest) s k = on (noded n s k) (λ a m. on (nodes_in rest s m) (λ more n. (a ∷ more, n)))
 
-abbrev pub node_step : Node-F (Surroundings → Progress → plain.Stmt × Progress) Part → Surroundings → Progress → plain.Stmt × Progress
-node_step (Node-F.Plain st) s k = formed st.form st.place.line s k
-node_step (Node-F.If branches last end) s k =
-    on (arms s branches k) (λ first m. on (other s last m) (λ rest m. (plain.If (in_arms first rest), m)))
-node_step (Node-F.Loop head body end) s k = looped head.place.line head.form body s k
-
-abbrev pub branch_step : Branch-F (Surroundings → Progress → plain.Stmt × Progress) Part → Part
-branch_step b = record { head = b.head; body = b.body }
-
-abbrev pub noded : Node → Surroundings → Progress → plain.Stmt × Progress
-noded = fold-Node (Surroundings → Progress → plain.Stmt × Progress) Part node_step branch_step
-
-abbrev pub parted : Branch → Part
-parted = fold-Branch (Surroundings → Progress → plain.Stmt × Progress) Part node_step branch_step
-
-abbrev pub nodes_in : Surroundings → List Node → Progress → List plain.Stmt × Progress
-nodes_in s ns = body_in s (map noded ns)
-
-abbrev pub branches_in : Surroundings → List Branch → Progress → List (plain.Stmt → plain.Stmt) × Progress
-branches_in s bs = arms s (map parted bs)
+  pub arms_in : PBranches → Surroundings → Progress → List (plain.Stmt → plain.Stmt) × Progress
+  arms_in BNone s k = ([], k)
+  arms_in (BMore head inner rest) s k = on (arm head (nodes_in inner) s k) (λ a m. on (arms_in rest s m) (λ more n. (a ∷ more, n)))

@@ -1,6 +1,9 @@
-ghost use Rattle.std.specs.Prelude.{◌≡◌, map, IfOk};
+ghost use Rattle.std.specs.Prelude.{◌≡◌, map, option_map, IfOk};
+ghost use Rattle.cdc_tree.specs.Plain as tree;
+ghost use Rattle.cdc_tree.specs.Forms as forms;
+ghost use Rattle.cdc_tree.specs.Units as units;
 ghost use Rattle.cdc_prog.specs.Translation.{expr_of, control_of, stmt_of, arm_of};
-ghost use Rattle.cdc_check.specs.Statements.{step_expr, controls, condition, counted, parallel, arm, noded, parted, nodes_in, branches_in};
+ghost use Rattle.cdc_check.specs.Statements.{step_expr, controls, condition, counted, parallel, looped, arm, noded, nodes_in, arms_in};
 
 use crate::expressions::expr;
 use crate::meaning::{Names, next, numbered, reference};
@@ -8,8 +11,8 @@ use crate::progress::Progress;
 use crate::simple::{nothing, statement};
 use cdc_base::List;
 use cdc_names::add;
-use cdc_parse::{Branch, Form, Loop, Named, Node, Tree};
 use cdc_prog::{Arm, Control, Expr, Stmt};
+use cdc_tree::{Branch, Form, Loop, Named, Node, Statement, Tree};
 use std::alloc::{AllocError, Global};
 
 fn step(
@@ -18,7 +21,7 @@ fn step(
     sites: &mut u32,
     by: &Option<Tree>,
 ) -> Result<Expr, AllocError>
-    ensures { IfOk result (λ e. (expr_of e, sites.new) ≡ step_expr names.now by.now sites.old) }
+    ensures { IfOk result (λ e. (expr_of e, sites.new) ≡ step_expr names.now (option_map tree.plain by.now) sites.old) }
 {
     match by {
         None => Ok(Expr::Number(1)),
@@ -33,7 +36,7 @@ fn controls(
     line: u32,
     l: &Loop,
 ) -> Result<Control, AllocError>
-    ensures { IfOk result (λ c. (control_of c, sites.new) ≡ controls line names.now l.now sites.old) }
+    ensures { IfOk result (λ c. (control_of c, sites.new) ≡ controls line names.now (forms.loop l.now) sites.old) }
 {
     let from = expr(alloc, names, sites, &l.from)?;
     let to = expr(alloc, names, sites, &l.to)?;
@@ -42,7 +45,7 @@ fn controls(
 }
 
 fn condition(alloc: Global, names: &Names, sites: &mut u32, head: &Form) -> Result<Expr, AllocError>
-    ensures { IfOk result (λ e. (expr_of e, sites.new) ≡ condition head.now names.now sites.old) }
+    ensures { IfOk result (λ e. (expr_of e, sites.new) ≡ condition (forms.form head.now) names.now sites.old) }
 {
     match head {
         Form::IfThen(c) => expr(alloc, names, sites, c),
@@ -60,7 +63,7 @@ fn counted(
     line: u32,
     l: &Loop,
 ) -> Result<Stmt, AllocError>
-    ensures { IfOk result (λ s. (stmt_of s, state.new) ≡ counted line names.now l.now (map noded body.now) state.old) }
+    ensures { IfOk result (λ s. (stmt_of s, state.new) ≡ counted line names.now (forms.loop l.now) (nodes_in (units.body body.now)) state.old) }
 {
     let var = names.variable(&l.var);
     let place = l.var.place;
@@ -88,7 +91,7 @@ fn parallel(
     l: &Loop,
     privates: &[Named],
 ) -> Result<Stmt, AllocError>
-    ensures { IfOk result (λ s. (stmt_of s, state.new) ≡ parallel line names.now l.now privates.now (map noded body.now) state.old) }
+    ensures { IfOk result (λ s. (stmt_of s, state.new) ≡ parallel line names.now (forms.loop l.now) privates.now (nodes_in (units.body body.now)) state.old) }
 {
     let control = controls(alloc, names, &mut state.sites, line, l)?;
     let number = next(state.doalls);
@@ -107,6 +110,26 @@ fn parallel(
     })
 }
 
+#[cycle(node)]
+fn looped(
+    alloc: Global,
+    names: &Names,
+    state: &mut Progress,
+    body: &[Node],
+    head: &Statement,
+) -> Result<Stmt, AllocError>
+    ensures { IfOk result (λ s. (stmt_of s, state.new) ≡ looped head.now.place.line (forms.form head.now.form) (nodes_in (units.body body.now)) names.now state.old) }
+{
+    let line = head.place.line;
+    match &head.form {
+        Form::Do(l) => counted(alloc, names, state, body, line, l),
+        Form::Doall(l, privates) => {
+            parallel(alloc, names, state, body, line, l, privates.as_slice())
+        }
+        _ => Ok(nothing(alloc)),
+    }
+}
+
 /// What a statement or construct resolves to.
 #[cycle(node)]
 pub fn node(
@@ -115,7 +138,7 @@ pub fn node(
     state: &mut Progress,
     n: &Node,
 ) -> Result<Stmt, AllocError>
-    ensures { IfOk result (λ s. (stmt_of s, state.new) ≡ noded n.now names.now state.old) }
+    ensures { IfOk result (λ s. (stmt_of s, state.new) ≡ noded (units.node n.now) names.now state.old) }
 {
     match n {
         Node::Plain(s) => statement(alloc, names, state, s, s.place.line),
@@ -127,24 +150,7 @@ pub fn node(
             };
             Ok(Stmt::If { arms, other })
         }
-        Node::Loop(head, body, _) => {
-            let line = head.place.line;
-            match &head.form {
-                Form::Do(l) => counted(alloc, names, state, body.as_slice(), line, l),
-                Form::Doall(l, privates) => {
-                    parallel(
-                        alloc,
-                        names,
-                        state,
-                        body.as_slice(),
-                        line,
-                        l,
-                        privates.as_slice(),
-                    )
-                }
-                _ => Ok(nothing(alloc)),
-            }
-        }
+        Node::Loop(head, body, _) => looped(alloc, names, state, body.as_slice(), head),
     }
 }
 
@@ -156,7 +162,7 @@ pub fn nodes(
     state: &mut Progress,
     ns: &[Node],
 ) -> Result<List<Stmt>, AllocError>
-    ensures { IfOk result (λ ss. (map stmt_of ss, state.new) ≡ nodes_in names.now ns.now state.old) }
+    ensures { IfOk result (λ ss. (map stmt_of ss, state.new) ≡ nodes_in (units.body ns.now) names.now state.old) }
 {
     let mut found = List::new(alloc);
     for n in ns {
@@ -168,7 +174,7 @@ pub fn nodes(
 
 #[cycle(node)]
 fn branch(alloc: Global, names: &Names, state: &mut Progress, b: &Branch) -> Result<Arm, AllocError>
-    ensures { IfOk result (λ a. (arm_of a, state.new) ≡ arm names.now (parted b.now) state.old) }
+    ensures { IfOk result (λ a. (arm_of a, state.new) ≡ arm (units.branch b.now).0 (nodes_in (units.branch b.now).1) names.now state.old) }
 {
     let cond = condition(alloc, names, &mut state.sites, &b.head.form)?;
     let body = nodes(alloc, names, state, b.body.as_slice())?;
@@ -186,7 +192,7 @@ fn branches(
     state: &mut Progress,
     bs: &[Branch],
 ) -> Result<List<Arm>, AllocError>
-    ensures { IfOk result (λ found. (map arm_of found, state.new) ≡ branches_in names.now bs.now state.old) }
+    ensures { IfOk result (λ found. (map arm_of found, state.new) ≡ arms_in (units.branches_of (map units.branch bs.now)) names.now state.old) }
 {
     let mut found = List::new(alloc);
     for b in bs {

@@ -1,4 +1,5 @@
 ghost use Rattle.std.specs.Prelude.{◌≡◌, map, IfOk};
+ghost use Rattle.cdc_tree.specs.Plain as tree;
 ghost use Rattle.cdc_prog.specs.Plain.{Bin};
 ghost use Rattle.cdc_prog.specs.Translation.{expr_of};
 ghost use Rattle.cdc_check.specs.Meanings.{meaning_of};
@@ -7,8 +8,8 @@ ghost use Rattle.cdc_check.specs.Expressions.{literal, name_expr, subscripted, b
 use crate::meaning::{Meaning, Names, reference, variable_in};
 use cdc_base::List;
 use cdc_names::add;
-use cdc_parse::{Intrinsic, Named, Tree};
 use cdc_prog::{BinOp, Expr, UnOp};
+use cdc_tree::{Intrinsic, Named, Tree};
 use std::alloc::{AllocError, Global};
 
 fn literal(n: i64) -> Expr
@@ -39,7 +40,7 @@ fn subscripted(names: &Names, sites: &mut u32, named: &Named, subs: List<Expr>) 
 /// What an expression or a condition resolves to, with sites from the next on.
 #[cycle(expr)]
 pub fn expr(alloc: Global, names: &Names, sites: &mut u32, t: &Tree) -> Result<Expr, AllocError>
-    ensures { IfOk result (λ e. (expr_of e, sites.new) ≡ resolved names.now t.now sites.old) }
+    ensures { IfOk result (λ e. (expr_of e, sites.new) ≡ resolved names.now (tree.plain t.now) sites.old) }
 {
     match t {
         Tree::Number(_, n) => Ok(literal(*n)),
@@ -71,7 +72,7 @@ pub fn exprs(
     sites: &mut u32,
     ts: &[Tree],
 ) -> Result<List<Expr>, AllocError>
-    ensures { IfOk result (λ es. (map expr_of es, sites.new) ≡ resolved_in names.now ts.now sites.old) }
+    ensures { IfOk result (λ es. (map expr_of es, sites.new) ≡ resolved_in names.now (tree.plains (map tree.plain ts.now)) sites.old) }
 {
     let mut found = List::new(alloc);
     for t in ts {
@@ -89,7 +90,7 @@ fn known(
     which: Intrinsic,
     args: &[Tree],
 ) -> Result<Expr, AllocError>
-    ensures { IfOk result (λ e. (expr_of e, sites.new) ≡ applied which (resolved_in names.now args.now sites.old)) }
+    ensures { IfOk result (λ e. (expr_of e, sites.new) ≡ applied which (resolved_in names.now (tree.plains (map tree.plain args.now)) sites.old)) }
 {
     match args {
         [] => Ok(Expr::Number(0)),

@@ -1,4 +1,6 @@
 ghost use Rattle.std.specs.Prelude.{◌≡◌, ◌*◌, IfOk};
+ghost use Rattle.cdc_prog.specs.declared.program.Kind.TheVariants.{Words};
+ghost use Rattle.cdc_prog.specs.Limits.{limit};
 ghost use Rattle.cdc_prog.specs.Data.{size_of};
 ghost use Rattle.cdc_check.specs.Objects.{capped};
 ghost use Rattle.cdc_check.specs.Layout.{laid_at, layout};
@@ -9,17 +11,22 @@ use crate::progress::Shape;
 use crate::refusal::CheckRefusal;
 use cdc_base::List;
 use cdc_names::add;
-use cdc_prog::{Dim, Kind, Object};
+use cdc_prog::{Dim, Kind, Object, limit};
 use std::alloc::{AllocError, Global};
 
 /// The words of memory that a program may have.
-const WORDS: u32 = 4_194_304;
+pub fn words_limit() -> u32
+    ensures { result ≡ limit Words }
+{
+    limit(Kind::Words) as u32
+}
 
 fn times(a: u32, b: u32) -> u32
     ensures { result ≡ capped (a * b) }
 {
+    let most = words_limit();
     let product = a.saturating_mul(b);
-    if product > WORDS { WORDS + 1 } else { product }
+    if product > most { most + 1 } else { product }
 }
 
 fn size(dims: &[Dim]) -> u32
@@ -46,8 +53,8 @@ fn laid(alloc: Global, base: u32, words: u32, shape: &Shape) -> Result<Object, A
     })
 }
 
-/// Objects one after another from word 0, and their words; refused where these are more than
-/// 4,194,304.
+/// Objects one after another from word 0, and their words; refused where these are over their
+/// limit.
 pub fn layout(alloc: Global, shapes: &[Shape]) -> Result<(List<Object>, u32), CheckRefusal>
     ensures { Answers (λ r. r) result (layout shapes.now) }
 {
@@ -55,7 +62,7 @@ pub fn layout(alloc: Global, shapes: &[Shape]) -> Result<(List<Object>, u32), Ch
     let mut next = 0;
     for shape in shapes {
         let words = size(shape.dims.as_slice());
-        if words > WORDS - next {
+        if words > words_limit() - next {
             return Err(CheckRefusal::TooMany(Kind::Words));
         }
         let object = laid(alloc, next, words, shape)?;

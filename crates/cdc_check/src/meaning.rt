@@ -4,8 +4,8 @@ ghost use Rattle.cdc_check.specs.Meanings.{surroundings, slot_from, slot_or, mea
 
 use cdc_base::Place;
 use cdc_names::Table;
-use cdc_parse::Named;
 use cdc_prog::{Ref, Var};
+use cdc_tree::Named;
 use std::marker::Model;
 
 /// What a name stands for in its unit.

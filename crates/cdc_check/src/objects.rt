@@ -1,14 +1,18 @@
 ghost use Rattle.std.specs.Prelude.{◌≡◌, [], map, pos, ◌+ℤ◌, ◌-ℤ◌, IfOk, OnOk};
 ghost use Rattle.cdc_prog.specs.Value.{at_least_zero};
+ghost use Rattle.cdc_tree.specs.Forms.{bound};
+ghost use Rattle.cdc_names.specs.Declarations.{plain_declaration};
+ghost use Rattle.cdc_names.specs.Scopes.{plain_scope};
 ghost use Rattle.cdc_check.specs.Objects.{capped, extent, dim_between, dim, naming, with_object, with_value, with_declared, declared_from, implied_from, named_in};
 
 use crate::copies::bytes_of;
+use crate::layout::words_limit;
 use crate::meaning::{Meaning, numbered};
 use crate::progress::Shape;
 use cdc_base::List;
 use cdc_names::{Declaration, NameUse, Scope, Table, add, constant, low_of};
-use cdc_parse::Bound;
 use cdc_prog::{Dim, Var};
+use cdc_tree::Bound;
 use std::alloc::{AllocError, Global};
 
 fn positions(low: i64, high: i64) -> i128
@@ -23,8 +27,9 @@ fn cut(n: i128) -> u32
     if n < 0 {
         return 0;
     }
-    if n > 4_194_305 {
-        return 4_194_305;
+    let most = words_limit() + 1;
+    if n > most as i128 {
+        return most;
     }
     n as u32
 }
@@ -50,13 +55,13 @@ fn dim_between(low: Option<i64>, high: Option<i64>) -> Dim
 }
 
 fn dim(values: &Table<i64>, b: &Bound) -> Dim
-    ensures { result ≡ dim values.now b.now }
+    ensures { result ≡ dim values.now (bound b.now) }
 {
     dim_between(low_of(values, &b.low), constant(values, &b.high))
 }
 
 fn dims(alloc: Global, values: &Table<i64>, bounds: &[Bound]) -> Result<List<Dim>, AllocError>
-    ensures { IfOk result (λ ds. ds ≡ map (dim values.now) bounds.now) }
+    ensures { IfOk result (λ ds. ds ≡ map (dim values.now) (map bound bounds.now)) }
 {
     let mut found = List::new(alloc);
     for b in bounds {
@@ -113,7 +118,7 @@ fn declare<'a>(
     values: &Table<i64>,
     d: &Declaration<'a>,
 ) -> Result<(), AllocError>
-    ensures { OnOk result (naming names.new objects.new ≡ with_declared unit values.now (naming names.old objects.old) d.now) }
+    ensures { OnOk result (naming names.new objects.new ≡ with_declared unit values.now (naming names.old objects.old) (plain_declaration d.now)) }
 {
     let name = d.named.name.as_slice();
     if d.value.is_some() {
@@ -131,7 +136,7 @@ fn declare_all<'a>(
     values: &Table<i64>,
     ds: &[Declaration<'a>],
 ) -> Result<(), AllocError>
-    ensures { OnOk result (naming names.new objects.new ≡ declared_from unit values.now (naming names.old objects.old) ds.now) }
+    ensures { OnOk result (naming names.new objects.new ≡ declared_from unit values.now (naming names.old objects.old) (map plain_declaration ds.now)) }
 {
     for d in ds {
         declare(alloc, names, objects, unit, values, d)?;
@@ -161,7 +166,7 @@ pub fn named_in<'a>(
     unit: u32,
     scope: &Scope<'a>,
 ) -> Result<Table<'a, Meaning>, AllocError>
-    ensures { IfOk result (λ names. naming names objects.new ≡ named_in unit scope.now objects.old) }
+    ensures { IfOk result (λ names. naming names objects.new ≡ named_in unit (plain_scope scope.now) objects.old) }
 {
     let mut names = Table::new(alloc);
     declare_all(

@@ -1,7 +1,9 @@
 ghost use Rattle.std.specs.Prelude.{◌≡◌, ◌<◌, [], map, length, IfOk};
+ghost use Rattle.cdc_tree.specs.Units as trees;
 ghost use Rattle.cdc_prog.specs.Resolved.{IsResolved, IsSerial};
-ghost use Rattle.cdc_names.specs.Duplicates.{slot_lists};
+ghost use Rattle.cdc_prog.specs.Premises.{KeepsLoopVariables};
 ghost use Rattle.cdc_prog.specs.Translation.{program_of, unit_of};
+ghost use Rattle.cdc_check.specs.Built.{AreBuilt};
 ghost use Rattle.cdc_check.specs.Units.{whole};
 ghost use Rattle.cdc_check.specs.Check.{finished, checked};
 ghost use Rattle.cdc_check.specs.Refusals.{Answers};
@@ -13,8 +15,8 @@ use crate::refuse::{refuse_counts, refuse_names};
 use crate::units::{main_unit, resolved_units};
 use cdc_base::List;
 use cdc_names::scopes_of;
-use cdc_parse::UnitText;
-use cdc_prog::{Kind, Program, Unit};
+use cdc_prog::{Kind, Program, Unit, limit};
+use cdc_tree::UnitText;
 use std::alloc::Global;
 
 fn finish(
@@ -31,11 +33,11 @@ fn finish(
         doalls,
         texts,
     } = state;
-    if objects.len() > 1024 {
+    if objects.len() as u64 > limit(Kind::Objects) {
         return Err(CheckRefusal::TooMany(Kind::Objects));
     }
     let (objects, words) = layout(alloc, objects)?;
-    if sites > 16384 {
+    if sites as u64 > limit(Kind::Sites) {
         return Err(CheckRefusal::TooMany(Kind::Sites));
     }
     Ok(Program {
@@ -50,7 +52,7 @@ fn finish(
 }
 
 fn program(alloc: Global, units: &[UnitText]) -> Result<Program, CheckRefusal>
-    ensures { Answers program_of result (checked units.now) }
+    ensures { Answers program_of result (checked (map trees.unit units.now)) }
 {
     let scopes = scopes_of(alloc, units)?;
     refuse_names(alloc, units, scopes.as_slice())?;
@@ -65,14 +67,19 @@ fn program(alloc: Global, units: &[UnitText]) -> Result<Program, CheckRefusal>
     finish(alloc, main_unit(units), resolved, objects.as_slice(), state)
 }
 
-/// The resolved program of units without SUBROUTINE and CALL, or the first refusal in the order
-/// of the kinds; within a kind the place that stands first.
+/// The resolved program of units, or the first refusal in the order of the kinds; within a kind the
+/// place that stands first. SUBROUTINE, CALL and DOALL are not built yet.
 pub fn check(alloc: Global, units: &List<UnitText>) -> Result<Program, CheckRefusal>
-    ensures answer { Answers program_of result (checked units.now) }
+    requires built { AreBuilt (map trees.unit units.now) }
+    requires some { 0 < length units.now }
+    ensures answer { Answers program_of result (checked (map trees.unit units.now)) }
 
-    // Without DOALL loops each access of an accepted program lies in its memory, and it forks and calls nowhere.
-    ensures resolved { slot_lists units.now ≡ [] → 0 < length units.now → IfOk result (λ p. IsResolved (program_of p)) }
-    ensures serial { slot_lists units.now ≡ [] → IfOk result (λ p. IsSerial (program_of p)) }
+    // Each access of an accepted program lies in its memory, and it forks and calls nowhere.
+    ensures resolved { IfOk result (λ p. IsResolved (program_of p)) }
+    ensures serial { IfOk result (λ p. IsSerial (program_of p)) }
+
+    // Inside a DO nothing stores in its variable (ISO/IEC 1539:1991, section 8.1.4.4.2).
+    ensures keeps { IfOk result (λ p. KeepsLoopVariables (program_of p)) }
 {
     program(alloc, units.as_slice())
 }

@@ -1,7 +1,12 @@
 // The kinds of refusal, asked in their order.
-ghost use Rattle.std.specs.Prelude.{◌≡◌, ◌∷◌, nat_lt, length, IfOk};
+ghost use Rattle.std.specs.Prelude.{◌≡◌, ◌+◌, ◌∷◌, nat_lt, map, length, IfOk};
 ghost use Rattle.std.specs.List.{list_any};
+ghost use Rattle.cdc_tree.specs.Forms.{form};
+ghost use Rattle.cdc_tree.specs.Units.{unit};
+ghost use Rattle.cdc_names.specs.Scopes.{plain_scope};
 ghost use Rattle.cdc_names.specs.Duplicates.{dummy_names, slot_lists};
+ghost use Rattle.cdc_prog.specs.declared.program.Kind.TheVariants.{Dummies, Privates};
+ghost use Rattle.cdc_prog.specs.Limits.{limit};
 ghost use Rattle.cdc_check.specs.Check.{names_refused, counts_refused};
 ghost use Rattle.cdc_check.specs.Refusals.{Stands};
 
@@ -11,13 +16,13 @@ use cdc_names::{
     Label, Scope, first_do_variable, first_duplicate, first_not_constant, first_shape,
     first_undeclared, slot_lists,
 };
-use cdc_parse::{Form, UnitText};
-use cdc_prog::Kind;
+use cdc_prog::{Kind, limit};
+use cdc_tree::{Form, UnitText};
 use std::alloc::{AllocError, Global};
 
 /// The first refusal of the names of units.
 pub fn refuse_names(alloc: Global, units: &[UnitText], scopes: &[Scope]) -> Result<(), CheckRefusal>
-    ensures { Stands result (names_refused units.now scopes.now) }
+    ensures { Stands result (names_refused (map unit units.now) (map plain_scope scopes.now)) }
 {
     if let Some(p) = first_undeclared(scopes) {
         return Err(CheckRefusal::Undeclared(p));
@@ -38,7 +43,7 @@ pub fn refuse_names(alloc: Global, units: &[UnitText], scopes: &[Scope]) -> Resu
 }
 
 fn dummies(head: &Form) -> usize
-    ensures { result ≡ length (dummy_names head.now) }
+    ensures { result ≡ length (dummy_names (form head.now)) }
 {
     match head {
         Form::Subroutine(_, dummies) => dummies.as_slice().len(),
@@ -47,10 +52,10 @@ fn dummies(head: &Form) -> usize
 }
 
 fn many_dummies(units: &[UnitText]) -> bool
-    ensures { result ≡ list_any (λ u. nat_lt 32 (length (dummy_names u.head.form))) units.now }
+    ensures { result ≡ list_any (λ u. nat_lt (limit Dummies) (length (dummy_names u.head.form))) (map unit units.now) }
 {
     for u in units {
-        if 32 < dummies(&u.head.form) {
+        if dummies(&u.head.form) as u64 > limit(Kind::Dummies) {
             return true;
         }
     }
@@ -58,10 +63,10 @@ fn many_dummies(units: &[UnitText]) -> bool
 }
 
 fn any_longer(lists: &[List<Label>]) -> bool
-    ensures { result ≡ list_any (λ ns. nat_lt 33 (length ns)) lists.now }
+    ensures { result ≡ list_any (λ ns. nat_lt (limit Privates + 1) (length ns)) lists.now }
 {
     for names in lists {
-        if 33 < names.as_slice().len() {
+        if names.as_slice().len() as u64 > limit(Kind::Privates) + 1 {
             return true;
         }
     }
@@ -69,7 +74,7 @@ fn any_longer(lists: &[List<Label>]) -> bool
 }
 
 fn many_privates(alloc: Global, units: &[UnitText]) -> Result<bool, AllocError>
-    ensures { IfOk result (λ b. b ≡ list_any (λ ns. nat_lt 33 (length ns)) (slot_lists units.now)) }
+    ensures { IfOk result (λ b. b ≡ list_any (λ ns. nat_lt (limit Privates + 1) (length ns)) (slot_lists (map unit units.now))) }
 {
     let lists = slot_lists(alloc, units)?;
     Ok(any_longer(lists.as_slice()))
@@ -77,9 +82,9 @@ fn many_privates(alloc: Global, units: &[UnitText]) -> Result<bool, AllocError>
 
 /// The first number of units, dummies or private names that is over its limit.
 pub fn refuse_counts(alloc: Global, units: &[UnitText]) -> Result<(), CheckRefusal>
-    ensures { Stands result (counts_refused units.now) }
+    ensures { Stands result (counts_refused (map unit units.now)) }
 {
-    if units.len() > 64 {
+    if units.len() as u64 > limit(Kind::Units) {
         return Err(CheckRefusal::TooMany(Kind::Units));
     }
     if many_dummies(units) {

@@ -1,8 +1,10 @@
 // Statements that are no construct.
 ghost use Rattle.std.specs.Prelude.{◌≡◌, ◌∷◌, [], map, IfOk};
+ghost use Rattle.cdc_tree.specs.Plain as tree;
+ghost use Rattle.cdc_tree.specs.Forms as forms;
 ghost use Rattle.cdc_prog.specs.Plain as plain;
 ghost use Rattle.cdc_prog.specs.Translation.{expr_of, target_of, item_of, stmt_of, chain};
-ghost use Rattle.cdc_check.specs.Statements.{assigned, target, targets, with_text, item, items, formed, stated};
+ghost use Rattle.cdc_check.specs.Statements.{assigned, target, targets, with_text, item, items, formed};
 
 use crate::copies::bytes_of;
 use crate::expressions::{expr, exprs};
@@ -10,8 +12,8 @@ use crate::meaning::{Names, numbered, reference};
 use crate::progress::Progress;
 use cdc_base::List;
 use cdc_names::add;
-use cdc_parse::{Form, Shown, Spot, Statement, Tree};
 use cdc_prog::{Arm, Expr, Item, Stmt, Target};
+use cdc_tree::{Form, Shown, Spot, Statement, Tree};
 use std::alloc::{AllocError, Global};
 
 fn assign(
@@ -22,7 +24,7 @@ fn assign(
     spot: &Spot,
     value: &Tree,
 ) -> Result<Stmt, AllocError>
-    ensures { IfOk result (λ s. (stmt_of s, sites.new) ≡ assigned line names.now spot.now value.now sites.old) }
+    ensures { IfOk result (λ s. (stmt_of s, sites.new) ≡ assigned line names.now (forms.spot spot.now) (tree.plain value.now) sites.old) }
 {
     let subs = exprs(alloc, names, sites, spot.subs.as_slice())?;
     let value = expr(alloc, names, sites, value)?;
@@ -35,7 +37,7 @@ fn assign(
 }
 
 fn target(alloc: Global, names: &Names, sites: &mut u32, spot: &Spot) -> Result<Target, AllocError>
-    ensures { IfOk result (λ t. (target_of t, sites.new) ≡ target names.now spot.now sites.old) }
+    ensures { IfOk result (λ t. (target_of t, sites.new) ≡ target names.now (forms.spot spot.now) sites.old) }
 {
     let subs = exprs(alloc, names, sites, spot.subs.as_slice())?;
     let at = reference(names.variable(&spot.name), spot.name.place, sites);
@@ -48,7 +50,7 @@ fn targets(
     sites: &mut u32,
     spots: &[Spot],
 ) -> Result<List<Target>, AllocError>
-    ensures { IfOk result (λ ts. (map target_of ts, sites.new) ≡ targets names.now spots.now sites.old) }
+    ensures { IfOk result (λ ts. (map target_of ts, sites.new) ≡ targets names.now (map forms.spot spots.now) sites.old) }
 {
     let mut found = List::new(alloc);
     for spot in spots {
@@ -73,7 +75,7 @@ fn item(
     state: &mut Progress,
     shown: &Shown,
 ) -> Result<Item, AllocError>
-    ensures { IfOk result (λ i. (item_of i, state.new) ≡ item names.now shown.now state.old) }
+    ensures { IfOk result (λ i. (item_of i, state.new) ≡ item names.now (forms.shown shown.now) state.old) }
 {
     match shown {
         Shown::Text(bytes) => Ok(Item::Text(text(alloc, state, bytes)?)),
@@ -87,7 +89,7 @@ fn items(
     state: &mut Progress,
     shown: &[Shown],
 ) -> Result<List<Item>, AllocError>
-    ensures { IfOk result (λ is. (map item_of is, state.new) ≡ items names.now shown.now state.old) }
+    ensures { IfOk result (λ is. (map item_of is, state.new) ≡ items names.now (map forms.shown shown.now) state.old) }
 {
     let mut found = List::new(alloc);
     for s in shown {
@@ -128,7 +130,7 @@ fn form(
     f: &Form,
     line: u32,
 ) -> Result<Stmt, AllocError>
-    ensures { IfOk result (λ s. (stmt_of s, state.new) ≡ formed f.now line names.now state.old) }
+    ensures { IfOk result (λ s. (stmt_of s, state.new) ≡ formed (forms.form f.now) line names.now state.old) }
 {
     match f {
         Form::Assign(spot, value) => assign(alloc, names, &mut state.sites, line, spot, value),
@@ -158,7 +160,7 @@ pub fn statement(
     s: &Statement,
     line: u32,
 ) -> Result<Stmt, AllocError>
-    ensures { IfOk result (λ r. (stmt_of r, state.new) ≡ stated s.now line names.now state.old) }
+    ensures { IfOk result (λ r. (stmt_of r, state.new) ≡ formed ((forms.statement s.now).form) line names.now state.old) }
 {
     form(alloc, names, state, &s.form, line)
 }

@@ -6,15 +6,17 @@ use Rattle.cdc_base.specs.declared.place.Place.{Place}
 use Rattle.cdc_token.specs.declared.token.LexRefusal.{LexRefusal}
 use Rattle.cdc_token.specs.declared.token.LexRefusal.TheVariants as l
 use Rattle.cdc_token.specs.Refusals.{IsRefused}
-use Rattle.cdc_parse.specs.declared.unit.UnitText.{UnitText}
-use Rattle.cdc_parse.specs.declared.form.Statement.{Statement}
+use Rattle.cdc_tree.specs.Forms.{PStatement}
+use Rattle.cdc_tree.specs.Units.{PUnit}
+use Rattle.cdc_tree.specs.Order.{InOrder}
 use Rattle.cdc_token.specs.declared.token.Line.{Line}
-use Rattle.cdc_parse.specs.declared.refusal.ParseRefusal.{ParseRefusal}
-use Rattle.cdc_parse.specs.declared.refusal.ParseRefusal.TheVariants as p
+use Rattle.cdc_tree.specs.declared.refusal.ParseRefusal.{ParseRefusal}
+use Rattle.cdc_tree.specs.declared.refusal.ParseRefusal.TheVariants as p
 use Rattle.cdc_parse.specs.Lines.{AreStatements}
-use Rattle.cdc_parse.specs.Units.{InOrder, AreNested}
+use Rattle.cdc_nest.specs.Units.{AreNested}
 use Rattle.cdc_prog.specs.declared.program.Object.{Object}
 use Rattle.cdc_prog.specs.declared.program.Kind.TheVariants as k
+use Rattle.cdc_prog.specs.Numbered.{program_numbered}
 use Rattle.cdc_prog.specs.Plain as plain
 use Rattle.cdc_prog.specs.Translation.{program_of}
 use Rattle.cdc_check.specs.declared.refusal.CheckRefusal.{CheckRefusal}
@@ -40,7 +42,7 @@ use Rattle.cdc_compile.specs.Source.{HasLines, HasStatements, HasBuiltUnits, IsP
 use Rattle.cdc_compile.proofs.Ascending.{statements_in_order}
 
 -- the lines of the statements ascend
-pub has_order : (source : List ℕ) (ss : List Statement) → HasStatements source ss → InOrder ss
+pub has_order : (source : List ℕ) (ss : List PStatement) → HasStatements source ss → InOrder ss
 has_order source ss has = statements_in_order source has.lines ss has.has_lines.are_lines has.are_statements
 
 pub lex_answered : (source : List ℕ) (r : LexRefusal) → length source ≤ 262144 → IsRefused source r → IsProgramOf source (Err (of_lex r))
@@ -57,7 +59,7 @@ lines_answered source lines (p.Depth n) has is = inl (record { lines = lines; ha
 lines_answered source lines (p.Nesting n) has is = absurd is
 lines_answered source lines p.Memory has is = tt
 
-pub statements_answered : (source : List ℕ) (ss : List Statement) (r : ParseRefusal) → HasStatements source ss → AreNested ss (Err r) → IsProgramOf source (Err (of_parse r))
+pub statements_answered : (source : List ℕ) (ss : List PStatement) (r : ParseRefusal) → HasStatements source ss → AreNested ss (Err r) → IsProgramOf source (Err (of_parse r))
 statements_answered source ss (p.NotAStatement n) has is = absurd is
 statements_answered source ss (p.Depth n) has is = inr (record { statements = ss; has_statements = has; refused = is })
 statements_answered source ss (p.Nesting n) has is = record { statements = ss; has_statements = has; refused = is }
@@ -100,7 +102,7 @@ unfolding NotLong
 with_layout_never main units progress (Err r) never = λ is. never cc
 with_layout_never main units progress (Ok laid) never =
     either_never (nat_lt 16384 progress.sites) (Err (c.TooMany k.Sites))
-    (Ok (record { units = units; main = main; objects = laid.0; texts = progress.texts; sites = progress.sites; doalls = progress.doalls; words = laid.1 })) (λ is. cc) (λ is. cc)
+    (Ok (program_numbered (record { units = units; main = main; objects = laid.0; texts = progress.texts; sites = progress.sites; doalls = progress.doalls; words = laid.1 }))) (λ is. cc) (λ is. cc)
 
 layout_never : (shapes : List Shape) → NotLong (layout shapes)
 unfolding NotLong
@@ -112,7 +114,7 @@ finished_never main r =
     either_never (nat_lt 1024 (length r.1.objects)) (Err (c.TooMany k.Objects)) (with_layout main r.0 r.1.progress (layout r.1.objects)) (λ is. cc)
     (with_layout_never main r.0 r.1.progress (layout r.1.objects) (layout_never r.1.objects))
 
-checked_never : (us : List UnitText) → NotLong (checked us)
+checked_never : (us : List PUnit) → NotLong (checked us)
 checked_never us =
     let ss = map scope_of us in
     unless_never (names_refused us ss) (counts_refused us) (finished (main_from 0 us) (each (units_from 0 us ss) nothing_yet))
@@ -122,7 +124,7 @@ checked_never us =
 
 -- ---- the check
 
-pub check_answered : (source : List ℕ) (us : List UnitText) (r : CheckRefusal) → HasBuiltUnits source us → Answers program_of (Err r) (checked us) → IsProgramOf source (Err (of_check r))
+pub check_answered : (source : List ℕ) (us : List PUnit) (r : CheckRefusal) → HasBuiltUnits source us → Answers program_of (Err r) (checked us) → IsProgramOf source (Err (of_check r))
 unfolding NotLong
 check_answered source us (c.Undeclared at) has is = (us, has, is)
 check_answered source us (c.Duplicate at other) has is = (us, has, is)

@@ -10,11 +10,11 @@ use Rattle.cdc_token.specs.Pieces.{Piece, goes_on}
 use Rattle.cdc_token.specs.Tokens.{Item, meaning, items_of}
 use Rattle.cdc_token.specs.Logical.{line_items, ending, items, gather, AreLogicalLines}
 use Rattle.cdc_token.proofs.Laws.{HasTokens, have_tokens}
-use Rattle.cdc_parse.specs.declared.form.Statement.{Statement}
-use Rattle.cdc_parse.specs.Forms.{statement, place_at}
+use Rattle.cdc_tree.specs.Forms.{PStatement}
+use Rattle.cdc_tree.specs.Order.{Each, InOrder}
+use Rattle.cdc_parse.specs.Forms.{place_at}
 use Rattle.cdc_parse.specs.Stands.{StandsFor}
-use Rattle.cdc_parse.specs.Lines.{Each, Ascend, StandAll}
-use Rattle.cdc_parse.specs.Units.{EachOne, InOrder}
+use Rattle.cdc_parse.specs.Lines.{Ascend, StandAll}
 
 -- ---- items
 
@@ -107,13 +107,13 @@ lines_ascend source lines are =
 -- ---- statements
 
 -- a statement is on the line that it stands for
-same_line : (s : Statement) (l : Line) → HasTokens l → StandsFor (statement s) l.tokens → s.place.line ≡ l.line
+same_line : (s : PStatement) (l : Line) → HasTokens l → StandsFor s l.tokens → s.place.line ≡ l.line
 same_line s l has stands =
     let first : Some s.place ≡ Some has.first.place = sym stands.1 ∙ ap place_at has.tokens in
     let place : s.place ≡ has.first.place = cc in
     ap (λ (p : Place). p.line) place ∙ sym has.number
 
-each_statement : (n : ℕ) (ss : List Statement) (ls : List Line) → StandAll (map statement ss) ls → AllByRecursion HasTokens ls → Each (λ l. n ≤ l.line) ls → EachOne (λ s. n ≤ s.place.line) ss
+each_statement : (n : ℕ) (ss : List PStatement) (ls : List Line) → StandAll ss ls → AllByRecursion HasTokens ls → Each (λ l. n ≤ l.line) ls → Each (λ s. n ≤ s.place.line) ss
 each_statement n [] [] stand has le = tt
 each_statement n [] (l ∷ ls) stand has le = tt
 each_statement n (s ∷ ss) [] stand has le = absurd stand
@@ -121,7 +121,7 @@ each_statement n (s ∷ ss) (l ∷ ls) stand has le =
     let same = same_line s l has.0 stand.1 in
     (omega (arith, same, le.0), each_statement n ss ls stand.2 has.1 le.1)
 
-in_order : (ss : List Statement) (ls : List Line) → StandAll (map statement ss) ls → AllByRecursion HasTokens ls → Ascend ls → InOrder ss
+in_order : (ss : List PStatement) (ls : List Line) → StandAll ss ls → AllByRecursion HasTokens ls → Ascend ls → InOrder ss
 in_order [] [] stand has ascend = tt
 in_order [] (l ∷ ls) stand has ascend = tt
 in_order (s ∷ ss) [] stand has ascend = absurd stand
@@ -130,5 +130,5 @@ in_order (s ∷ ss) (l ∷ ls) stand has ascend =
     (each_statement s.place.line ss ls stand.2 has.1 (each_from s.place.line l.line ls (omega (arith, same)) ascend.0), in_order ss ls stand.2 has.1 ascend.1)
 
 -- the lines of the statements of a source ascend
-pub statements_in_order : (source : List ℕ) (lines : List Line) (ss : List Statement) → AreLogicalLines source lines → StandAll (map statement ss) lines → InOrder ss
+pub statements_in_order : (source : List ℕ) (lines : List Line) (ss : List PStatement) → AreLogicalLines source lines → StandAll ss lines → InOrder ss
 statements_in_order source lines ss are stand = in_order ss lines stand (have_tokens source lines are) (lines_ascend source lines are)

@@ -2,7 +2,6 @@ pub mod Ascending
 pub mod Passing
 pub mod Answered
 pub mod Nested
-pub mod OneShape
 pub mod OneUnits
 pub mod OneLines
 pub mod OneAnswer

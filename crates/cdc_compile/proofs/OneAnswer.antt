@@ -1,52 +1,48 @@
 -- A source has one answer: each stage answers it in one way, or goes on in one way.
-use Rattle.std.proofs.Common.{◌≡◌, ℕ, ◌<◌, ◌≤◌, ◌⊎◌, true, List, length, map, Result, Ok, Err, refl, sym, ap, subst, ◌∙◌, arith, inl, inr}
+use Rattle.std.proofs.Common.{◌≡◌, ℕ, ◌<◌, ◌≤◌, ◌⊎◌, true, List, length, None, Result, Ok, Err, refl, sym, ap, subst, ◌∙◌, arith, inl, inr}
 use Rattle.std.specs.Prelude.{◌≢◌}
 use Rattle.cdc_token.specs.declared.token.Line.{Line}
 use Rattle.cdc_token.specs.declared.token.LexRefusal.{LexRefusal}
 use Rattle.cdc_token.specs.declared.token.LexRefusal.TheVariants as l
 use Rattle.cdc_token.specs.Logical.{AreLogicalLines}
 use Rattle.cdc_token.specs.Refusals.{IsRefused}
-use Rattle.cdc_parse.specs.declared.form.Statement.{Statement}
-use Rattle.cdc_parse.specs.declared.unit.UnitText.{UnitText}
-use Rattle.cdc_parse.specs.declared.refusal.ParseRefusal.{ParseRefusal}
-use Rattle.cdc_parse.specs.declared.refusal.ParseRefusal.TheVariants as p
-use Rattle.cdc_parse.specs.Lines.{AreStatements}
-use Rattle.cdc_parse.specs.Units.{AreNested, EachOne}
-use Rattle.cdc_parse.specs.Bare.{bare}
+use Rattle.cdc_tree.specs.declared.refusal.ParseRefusal.{ParseRefusal}
+use Rattle.cdc_tree.specs.declared.refusal.ParseRefusal.TheVariants as p
+use Rattle.cdc_tree.specs.Forms.{PStatement}
+use Rattle.cdc_tree.specs.Order.{Each}
+use Rattle.cdc_tree.specs.Units.{PUnit}
+use Rattle.cdc_parse.specs.Lines.{StandAll, AreStatements}
+use Rattle.cdc_nest.specs.Units.{AreWritten, first_deep, AreNested}
 use Rattle.cdc_prog.specs.declared.program.Kind.TheVariants as k
+use Rattle.cdc_prog.specs.Limits.{limit}
 use Rattle.cdc_prog.specs.Plain as plain
 use Rattle.cdc_check.specs.declared.refusal.CheckRefusal.{CheckRefusal}
 use Rattle.cdc_check.specs.declared.refusal.CheckRefusal.TheVariants as c
+use Rattle.cdc_check.specs.Built.{IsUnbuilt, AllBuilt}
 use Rattle.cdc_check.specs.Check.{checked}
-use Rattle.cdc_check.proofs.Alike.{same_checked}
 use Rattle.cdc_compile.specs.declared.refusal.Refusal.{Refusal}
 use Rattle.cdc_compile.specs.declared.refusal.Refusal.TheVariants.{Lex, Parse, Check, Memory}
-use Rattle.cdc_compile.specs.Limits.{limit}
-use Rattle.cdc_compile.specs.Unbuilt.{is_unbuilt, IsUnbuilt, AllBuilt, IsLeastUnbuilt}
+use Rattle.cdc_compile.specs.Unbuilt.{IsLeastUnbuilt}
 use Rattle.cdc_compile.specs.Source.{HasLines, HasStatements, HasUnits, HasBuiltUnits, IsLexRefused, IsParseRefused, IsCheckRefused, IsProgramOf}
 use Rattle.cdc_compile.specs.Laws.{HasOneAnswer}
 use Rattle.cdc_compile.proofs.OneLines.{lines_one, lex_one, lines_or_refusal, statements_one, statements_or_refusal, lines_one_refusal}
-use Rattle.cdc_compile.proofs.OneShape.{Alike, each_alike, each_at}
-use Rattle.cdc_compile.proofs.OneUnits.{units_one, units_or_refusal, units_one_refusal}
+use Rattle.cdc_compile.proofs.OneUnits.{each_at, units_one, units_or_refusal, units_one_refusal}
 
 abbrev Answer : Type 0
 Answer = Result plain.Program Refusal
 
 -- ---- what is not built
 
-built_all : (a b : List Statement) (n : ℕ) → Alike a b → AllBuilt a → IsLeastUnbuilt b n → ⊥
-built_all a b n e all f =
-    let built = each_alike (λ x. is_unbuilt x.1 ≡ true → ⊥) a b e all in
-    each_at (λ s. IsUnbuilt s → ⊥) f.before f.unbuilt f.after (subst AllBuilt f.parts built) f.is_unbuilt
+built_all : (a : List PStatement) (n : ℕ) → AllBuilt a → IsLeastUnbuilt a n → ⊥
+built_all a n all f = each_at (λ s. IsUnbuilt s → ⊥) f.before f.unbuilt f.after (subst AllBuilt f.parts all) f.is_unbuilt
 
-unbuilt_least : (a b : List Statement) (n m : ℕ) → Alike a b → IsLeastUnbuilt a n → IsLeastUnbuilt b m → n ≤ m
-unbuilt_least a b n m e f g =
-    let least = each_alike (λ x. is_unbuilt x.1 ≡ true → n ≤ x.0.line) a b e f.least in
-    let le = each_at (λ s. IsUnbuilt s → n ≤ s.place.line) g.before g.unbuilt g.after (subst (EachOne (λ s. IsUnbuilt s → n ≤ s.place.line)) g.parts least) g.is_unbuilt in
+unbuilt_least : (a : List PStatement) (n m : ℕ) → IsLeastUnbuilt a n → IsLeastUnbuilt a m → n ≤ m
+unbuilt_least a n m f g =
+    let le = each_at (λ s. IsUnbuilt s → n ≤ s.place.line) g.before g.unbuilt g.after (subst (Each (λ s. IsUnbuilt s → n ≤ s.place.line)) g.parts f.least) g.is_unbuilt in
     omega (arith, le, g.number_is)
 
-unbuilt_one : (a b : List Statement) (n m : ℕ) → Alike a b → IsLeastUnbuilt a n → IsLeastUnbuilt b m → n ≡ m
-unbuilt_one a b n m e f g = let low = unbuilt_least a b n m e f g in (let high = unbuilt_least b a m n (sym e) g f in omega (arith, low, high))
+unbuilt_one : (a : List PStatement) (n m : ℕ) → IsLeastUnbuilt a n → IsLeastUnbuilt a m → n ≡ m
+unbuilt_one a n m f g = let low = unbuilt_least a n m f g in (let high = unbuilt_least a m n g f in omega (arith, low, high))
 
 -- ---- how an answer came about, stage by stage
 
@@ -55,24 +51,25 @@ abbrev answer_of : Result plain.Program CheckRefusal → Answer
 answer_of (Ok program) = Ok program
 answer_of (Err refusal) = Err (Check refusal)
 
-record ByCheck (ss : List Statement) (us : List UnitText) (a : Answer) : Type 0 where
+record ByCheck (ss : List PStatement) (us : List PUnit) (a : Answer) : Type 0 where
   all_built : AllBuilt ss
   answer : a ≡ answer_of (checked us)
 
-record ByUnbuilt (ss : List Statement) (a : Answer) : Type 0 where
+record ByUnbuilt (ss : List PStatement) (a : Answer) : Type 0 where
   number : ℕ
   least : IsLeastUnbuilt ss number
   answer : a ≡ Err (Parse (p.NotAStatement number))
 
-record ByNesting (ss : List Statement) (a : Answer) : Type 0 where
+record ByNesting (ss : List PStatement) (a : Answer) : Type 0 where
   refusal : ParseRefusal
   other : refusal ≢ p.Memory
   refused : AreNested ss (Err refusal)
   answer : a ≡ Err (Parse refusal)
 
-record WithUnits (ss : List Statement) (a : Answer) : Type 0 where
-  units : List UnitText
-  are_units : AreNested ss (Ok units)
+record WithUnits (ss : List PStatement) (a : Answer) : Type 0 where
+  units : List PUnit
+  are_units : AreWritten units ss
+  shallow : first_deep 0 ss ≡ None
   next : ByUnbuilt ss a ⊎ ByCheck ss units a
 
 record ByLines (lines : List Line) (a : Answer) : Type 0 where
@@ -82,8 +79,8 @@ record ByLines (lines : List Line) (a : Answer) : Type 0 where
   answer : a ≡ Err (Parse refusal)
 
 record WithStatements (lines : List Line) (a : Answer) : Type 0 where
-  statements : List Statement
-  are_statements : AreStatements lines (Ok statements)
+  statements : List PStatement
+  are_statements : StandAll statements lines
   next : ByNesting statements a ⊎ WithUnits statements a
 
 record ByTokens (source : List ℕ) (a : Answer) : Type 0 where
@@ -116,13 +113,13 @@ with_tokens source r within is other = inr (record { within = within; next = inl
 with_lines : (source : List ℕ) (a : Answer) (lines : List Line) → HasLines source lines → ByLines lines a ⊎ WithStatements lines a → Way source a
 with_lines source a lines has next = inr (record { within = has.within; next = inr (record { lines = lines; are_lines = has.are_lines; next = next }) })
 
-with_statements : (source : List ℕ) (a : Answer) (ss : List Statement) → HasStatements source ss → ByNesting ss a ⊎ WithUnits ss a → Way source a
+with_statements : (source : List ℕ) (a : Answer) (ss : List PStatement) → HasStatements source ss → ByNesting ss a ⊎ WithUnits ss a → Way source a
 with_statements source a ss has next = with_lines source a has.lines has.has_lines (inr (record { statements = ss; are_statements = has.are_statements; next = next }))
 
-with_units : (source : List ℕ) (a : Answer) (ss : List Statement) (us : List UnitText) → HasUnits source ss us → ByUnbuilt ss a ⊎ ByCheck ss us a → Way source a
-with_units source a ss us has next = with_statements source a ss has.has_statements (inr (record { units = us; are_units = has.are_units; next = next }))
+with_units : (source : List ℕ) (a : Answer) (ss : List PStatement) (us : List PUnit) → HasUnits source ss us → ByUnbuilt ss a ⊎ ByCheck ss us a → Way source a
+with_units source a ss us has next = with_statements source a ss has.has_statements (inr (record { units = us; are_units = has.are_units; shallow = has.shallow; next = next }))
 
-with_built : (source : List ℕ) (a : Answer) (us : List UnitText) → HasBuiltUnits source us → a ≡ answer_of (checked us) → Way source a
+with_built : (source : List ℕ) (a : Answer) (us : List PUnit) → HasBuiltUnits source us → a ≡ answer_of (checked us) → Way source a
 with_built source a us has answer = with_units source a has.statements us has.has_units (inr (record { all_built = has.all_built; answer = answer }))
 
 lex_way : (source : List ℕ) (r : LexRefusal) → IsLexRefused source r → Way source (Err (Lex r))
@@ -148,7 +145,7 @@ parse_way source (p.Nesting n) is =
     with_statements source (Err (Parse (p.Nesting n))) is.statements is.has_statements (inl (record { refusal = p.Nesting n; other = λ e. cc; refused = is.refused; answer = refl }))
 parse_way source p.Memory is = absurd is
 
-checked_way : (source : List ℕ) (r : CheckRefusal) → (units : List UnitText) × HasBuiltUnits source units × (checked units ≡ Err r) → Way source (Err (Check r))
+checked_way : (source : List ℕ) (r : CheckRefusal) → (units : List PUnit) × HasBuiltUnits source units × (checked units ≡ Err r) → Way source (Err (Check r))
 checked_way source r is = with_built source (Err (Check r)) is.0 is.1 (ap answer_of (sym is.2))
 
 check_way : (source : List ℕ) (r : CheckRefusal) → IsCheckRefused source r → Way source (Err (Check r))
@@ -183,26 +180,27 @@ way source (Err Memory) is other = absurd (other refl)
 
 -- ---- one way
 
--- units that are equal without pointers are checked alike
-built_one : (ss ts : List Statement) (us vs : List UnitText) (a b : Answer) → Alike ss ts → map bare us ≡ map bare vs
-    → ByUnbuilt ss a ⊎ ByCheck ss us a → ByUnbuilt ts b ⊎ ByCheck ts vs b → a ≡ b
-built_one ss ts us vs a b e f (inl x) (inl y) = x.answer ∙ ap (λ n. Err (Parse (p.NotAStatement n))) (unbuilt_one ss ts x.number y.number e x.least y.least) ∙ sym y.answer
-built_one ss ts us vs a b e f (inl x) (inr y) = absurd (built_all ts ss x.number (sym e) y.all_built x.least)
-built_one ss ts us vs a b e f (inr x) (inl y) = absurd (built_all ss ts y.number e x.all_built y.least)
-built_one ss ts us vs a b e f (inr x) (inr y) = x.answer ∙ ap answer_of (same_checked us vs f) ∙ sym y.answer
+built_one : (ss : List PStatement) (us : List PUnit) (a b : Answer) → ByUnbuilt ss a ⊎ ByCheck ss us a → ByUnbuilt ss b ⊎ ByCheck ss us b → a ≡ b
+built_one ss us a b (inl x) (inl y) = x.answer ∙ ap (λ n. Err (Parse (p.NotAStatement n))) (unbuilt_one ss x.number y.number x.least y.least) ∙ sym y.answer
+built_one ss us a b (inl x) (inr y) = absurd (built_all ss x.number y.all_built x.least)
+built_one ss us a b (inr x) (inl y) = absurd (built_all ss y.number x.all_built y.least)
+built_one ss us a b (inr x) (inr y) = x.answer ∙ sym y.answer
 
-nested_one : (ss ts : List Statement) (a b : Answer) → Alike ss ts → ByNesting ss a ⊎ WithUnits ss a → ByNesting ts b ⊎ WithUnits ts b → a ≡ b
-nested_one ss ts a b e (inl x) (inl y) = x.answer ∙ ap (λ r. Err (Parse r)) (units_one_refusal ss ts x.refusal y.refusal e x.refused y.refused x.other y.other) ∙ sym y.answer
-nested_one ss ts a b e (inl x) (inr y) = absurd (units_or_refusal ts ss y.units x.refusal (sym e) y.are_units x.refused x.other)
-nested_one ss ts a b e (inr x) (inl y) = absurd (units_or_refusal ss ts x.units y.refusal e x.are_units y.refused y.other)
-nested_one ss ts a b e (inr x) (inr y) = built_one ss ts x.units y.units a b e (units_one ss ts x.units y.units e x.are_units y.are_units) x.next y.next
+nested_one : (ss : List PStatement) (a b : Answer) → ByNesting ss a ⊎ WithUnits ss a → ByNesting ss b ⊎ WithUnits ss b → a ≡ b
+nested_one ss a b (inl x) (inl y) = x.answer ∙ ap (λ r. Err (Parse r)) (units_one_refusal ss x.refusal y.refusal x.refused y.refused x.other y.other) ∙ sym y.answer
+nested_one ss a b (inl x) (inr y) = absurd (units_or_refusal ss y.units x.refusal y.are_units y.shallow x.refused x.other)
+nested_one ss a b (inr x) (inl y) = absurd (units_or_refusal ss x.units y.refusal x.are_units x.shallow y.refused y.other)
+nested_one ss a b (inr x) (inr y) =
+    let same = units_one ss x.units y.units x.are_units y.are_units in
+    built_one ss y.units a b (subst (λ (us : List PUnit). ByUnbuilt ss a ⊎ ByCheck ss us a) same x.next) y.next
 
 stated_one : (lines : List Line) (a b : Answer) → ByLines lines a ⊎ WithStatements lines a → ByLines lines b ⊎ WithStatements lines b → a ≡ b
 stated_one lines a b (inl x) (inl y) = x.answer ∙ ap (λ r. Err (Parse r)) (lines_one_refusal lines x.refusal y.refusal x.refused y.refused x.other y.other) ∙ sym y.answer
 stated_one lines a b (inl x) (inr y) = absurd (statements_or_refusal lines y.statements x.refusal y.are_statements x.refused x.other)
 stated_one lines a b (inr x) (inl y) = absurd (statements_or_refusal lines x.statements y.refusal x.are_statements y.refused y.other)
 stated_one lines a b (inr x) (inr y) =
-    nested_one x.statements y.statements a b (statements_one lines x.statements y.statements x.are_statements y.are_statements) x.next y.next
+    let same = statements_one lines x.statements y.statements x.are_statements y.are_statements in
+    nested_one y.statements a b (subst (λ (ss : List PStatement). ByNesting ss a ⊎ WithUnits ss a) same x.next) y.next
 
 read_one : (source : List ℕ) (a b : Answer) → ByTokens source a ⊎ WithLines source a → ByTokens source b ⊎ WithLines source b → a ≡ b
 read_one source a b (inl x) (inl y) = x.answer ∙ ap (λ r. Err (Lex r)) (lex_one source x.refusal y.refusal x.refused y.refused x.other y.other) ∙ sym y.answer

@@ -15,12 +15,12 @@ use Rattle.cdc_token.specs.Refusals.{IsFirst, IsRefused}
 use Rattle.cdc_token.specs.Taking.{refusal}
 use Rattle.cdc_token.specs.Logical.{items, gather, AreLogicalLines}
 use Rattle.cdc_token.proofs.Laws.{one_reading, one_fault}
-use Rattle.cdc_parse.specs.declared.form.Statement.{Statement}
-use Rattle.cdc_parse.specs.declared.refusal.ParseRefusal.{ParseRefusal}
-use Rattle.cdc_parse.specs.declared.refusal.ParseRefusal.TheVariants.{NotAStatement, Depth, Nesting, Memory}
+use Rattle.cdc_tree.specs.declared.refusal.ParseRefusal.{ParseRefusal}
+use Rattle.cdc_tree.specs.declared.refusal.ParseRefusal.TheVariants.{NotAStatement, Depth, Nesting, Memory}
 use Rattle.cdc_parse.specs.Depth.{IsDeep}
-use Rattle.cdc_parse.specs.Forms.{PForm, statement}
-use Rattle.cdc_parse.specs.Lines.{Each, IsWithin, HasNone, IsGood, StandAll, SomeLine, IsDeepAt, IsNoStatementAt, AreStatements}
+use Rattle.cdc_tree.specs.Forms.{PStatement}
+use Rattle.cdc_tree.specs.Order.{Each}
+use Rattle.cdc_parse.specs.Lines.{IsWithin, HasNone, IsGood, StandAll, SomeLine, IsDeepAt, IsNoStatementAt, AreStatements}
 use Rattle.cdc_parse.proofs.LineLaws.{one_statement}
 
 -- ---- the logical lines of a source
@@ -70,7 +70,7 @@ lines_or_refusal source a r f g other = let x = named source r g other in f.soun
 
 -- ---- the statements of lines
 
-stand_one : (ss ts : List (Place × PForm)) (ls : List Line) → StandAll ss ls → StandAll ts ls → ss ≡ ts
+stand_one : (ss ts : List PStatement) (ls : List Line) → StandAll ss ls → StandAll ts ls → ss ≡ ts
 stand_one [] [] ls f g = refl
 stand_one [] (t ∷ ts) [] f g = absurd g
 stand_one [] (t ∷ ts) (x ∷ ls) f g = absurd f
@@ -79,15 +79,15 @@ stand_one (s ∷ ss) [] (x ∷ ls) f g = absurd g
 stand_one (s ∷ ss) (t ∷ ts) (x ∷ ls) f g =
     let first : s ≡ t = one_statement x.tokens s t f.0.parentheses f.1 g.1 in (let more = stand_one ss ts ls f.2 g.2 in λ i. first i ∷ more i)
 
-pub statements_one : (lines : List Line) (a b : List Statement) → AreStatements lines (Ok a) → AreStatements lines (Ok b) → map statement a ≡ map statement b
-statements_one lines a b f g = stand_one (map statement a) (map statement b) lines f g
+pub statements_one : (lines : List Line) (a b : List PStatement) → StandAll a lines → StandAll b lines → a ≡ b
+statements_one lines a b f g = stand_one a b lines f g
 
 -- ---- why lines have none
 
-stand_at : (ss : List (Place × PForm)) (before : List Line) (line : Line) (after : List Line) → StandAll ss (before ++ (line ∷ after)) → IsGood line
+stand_at : (ss : List PStatement) (before : List Line) (line : Line) (after : List Line) → StandAll ss (before ++ (line ∷ after)) → IsGood line
 stand_at [] [] line after h = absurd h
 stand_at [] (x ∷ before) line after h = absurd h
-stand_at (s ∷ ss) [] line after h = record { within = h.0; place = s.0; form = s.1; stands = h.1 }
+stand_at (s ∷ ss) [] line after h = record { within = h.0; statement = s; stands = h.1 }
 stand_at (s ∷ ss) (x ∷ before) line after h = stand_at ss before line after h.2
 
 each_at : (P : Line → Type 0) (before : List Line) (line : Line) (after : List Line) → Each P (before ++ (line ∷ after)) → P line
@@ -105,10 +105,10 @@ good_shallow : Clashes IsDeep
 good_shallow line good deep = within_shallow line.tokens good.within deep
 
 good_has : Clashes HasNone
-good_has line good none = none (good.place, good.form) good.stands
+good_has line good none = none good.statement good.stands
 
 -- among lines with statements there is none
-all_good : (Q : List Lexed → Type 0) (lines : List Line) (ss : List (Place × PForm)) (n : ℕ) → Clashes Q → StandAll ss lines → SomeLine lines n Q → ⊥
+all_good : (Q : List Lexed → Type 0) (lines : List Line) (ss : List PStatement) (n : ℕ) → Clashes Q → StandAll ss lines → SomeLine lines n Q → ⊥
 all_good Q lines ss n clash h s = clash s.line (stand_at ss s.before s.line s.after (subst (StandAll ss) s.parts h)) s.holds
 
 -- and none on a line with a lesser number
@@ -127,9 +127,9 @@ deep_or_none lines n m f g =
     let within = each_at (λ x. x.line ≡ n → IsWithin x.tokens) s.before s.line s.after (subst (Each (λ x. x.line ≡ n → IsWithin x.tokens)) s.parts f.shallow) in
     within_shallow s.line.tokens (within (s.number_is ∙ sym same)) s.holds
 
-pub statements_or_refusal : (lines : List Line) (a : List Statement) (r : ParseRefusal) → AreStatements lines (Ok a) → AreStatements lines (Err r) → r ≢ Memory → ⊥
-statements_or_refusal lines a (NotAStatement n) f g other = all_good HasNone lines (map statement a) n good_has f g.found
-statements_or_refusal lines a (Depth n) f g other = all_good IsDeep lines (map statement a) n good_shallow f g.found
+pub statements_or_refusal : (lines : List Line) (a : List PStatement) (r : ParseRefusal) → StandAll a lines → AreStatements lines (Err r) → r ≢ Memory → ⊥
+statements_or_refusal lines a (NotAStatement n) f g other = all_good HasNone lines a n good_has f g.found
+statements_or_refusal lines a (Depth n) f g other = all_good IsDeep lines a n good_shallow f g.found
 statements_or_refusal lines a (Nesting n) f g other = g
 statements_or_refusal lines a Memory f g other = other refl
 

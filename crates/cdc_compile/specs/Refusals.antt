@@ -1,8 +1,8 @@
 -- The refusal of a source by that of a stage: want of memory is one answer.
 use Rattle.cdc_token.specs.declared.token.LexRefusal.{LexRefusal}
 use Rattle.cdc_token.specs.declared.token.LexRefusal.TheVariants as l
-use Rattle.cdc_parse.specs.declared.refusal.ParseRefusal.{ParseRefusal}
-use Rattle.cdc_parse.specs.declared.refusal.ParseRefusal.TheVariants as p
+use Rattle.cdc_tree.specs.declared.refusal.ParseRefusal.{ParseRefusal}
+use Rattle.cdc_tree.specs.declared.refusal.ParseRefusal.TheVariants as p
 use Rattle.cdc_check.specs.declared.refusal.CheckRefusal.{CheckRefusal}
 use Rattle.cdc_check.specs.declared.refusal.CheckRefusal.TheVariants as c
 use Rattle.cdc_compile.specs.declared.refusal.Refusal.{Refusal}

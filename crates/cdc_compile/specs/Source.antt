@@ -1,25 +1,26 @@
 -- What is answered for a source: its resolved program, or the first of its refusals in the order of the stages.
-use Rattle.std.specs.Prelude.{◌≡◌, ℕ, ◌<◌, ◌≤◌, ◌⊎◌, List, length, Result, Ok, Err}
+use Rattle.std.specs.Prelude.{◌≡◌, ℕ, ◌<◌, ◌≤◌, ◌⊎◌, List, length, Result, Ok, Err, None}
 use Rattle.cdc_token.specs.declared.token.Line.{Line}
 use Rattle.cdc_token.specs.declared.token.LexRefusal.{LexRefusal}
 use Rattle.cdc_token.specs.declared.token.LexRefusal.TheVariants as l
 use Rattle.cdc_token.specs.Logical.{AreLogicalLines}
 use Rattle.cdc_token.specs.Refusals.{IsRefused}
-use Rattle.cdc_parse.specs.declared.form.Statement.{Statement}
-use Rattle.cdc_parse.specs.declared.unit.UnitText.{UnitText}
-use Rattle.cdc_parse.specs.declared.refusal.ParseRefusal.{ParseRefusal}
-use Rattle.cdc_parse.specs.declared.refusal.ParseRefusal.TheVariants as p
-use Rattle.cdc_parse.specs.Lines.{AreStatements}
-use Rattle.cdc_parse.specs.Units.{AreNested}
+use Rattle.cdc_tree.specs.declared.refusal.ParseRefusal.{ParseRefusal}
+use Rattle.cdc_tree.specs.declared.refusal.ParseRefusal.TheVariants as p
+use Rattle.cdc_tree.specs.Forms.{PStatement}
+use Rattle.cdc_tree.specs.Units.{PUnit}
+use Rattle.cdc_parse.specs.Lines.{StandAll, AreStatements}
+use Rattle.cdc_nest.specs.Units.{AreWritten, first_deep, AreNested}
 use Rattle.cdc_prog.specs.declared.program.Kind.TheVariants as k
+use Rattle.cdc_prog.specs.Limits.{limit}
 use Rattle.cdc_prog.specs.Plain as plain
 use Rattle.cdc_check.specs.declared.refusal.CheckRefusal.{CheckRefusal}
 use Rattle.cdc_check.specs.declared.refusal.CheckRefusal.TheVariants as c
+use Rattle.cdc_check.specs.Built.{AllBuilt}
 use Rattle.cdc_check.specs.Check.{checked}
 use Rattle.cdc_compile.specs.declared.refusal.Refusal.{Refusal}
 use Rattle.cdc_compile.specs.declared.refusal.Refusal.TheVariants.{Lex, Parse, Check, Memory}
-use Rattle.cdc_compile.specs.Limits.{limit}
-use Rattle.cdc_compile.specs.Unbuilt.{AllBuilt, IsLeastUnbuilt}
+use Rattle.cdc_compile.specs.Unbuilt.{IsLeastUnbuilt}
 
 -- ---- a source that no stage so far refuses
 
@@ -29,19 +30,20 @@ pub record HasLines (source : List ℕ) (lines : List Line) : Type 0 where
   pub are_lines : AreLogicalLines source lines
 
 -- these are the statements of its lines
-pub record HasStatements (source : List ℕ) (statements : List Statement) : Type 0 where
+pub record HasStatements (source : List ℕ) (statements : List PStatement) : Type 0 where
   pub lines : List Line
   pub has_lines : HasLines source lines
-  pub are_statements : AreStatements lines (Ok statements)
+  pub are_statements : StandAll statements lines
 
 -- these are the units of its statements
-pub record HasUnits (source : List ℕ) (statements : List Statement) (units : List UnitText) : Type 0 where
+pub record HasUnits (source : List ℕ) (statements : List PStatement) (units : List PUnit) : Type 0 where
   pub has_statements : HasStatements source statements
-  pub are_units : AreNested statements (Ok units)
+  pub are_units : AreWritten units statements
+  pub shallow : first_deep 0 statements ≡ None
 
 -- these are its units, and each of their statements is built
-pub record HasBuiltUnits (source : List ℕ) (units : List UnitText) : Type 0 where
-  pub statements : List Statement
+pub record HasBuiltUnits (source : List ℕ) (units : List PUnit) : Type 0 where
+  pub statements : List PStatement
   pub has_units : HasUnits source statements units
   pub all_built : AllBuilt statements
 
@@ -55,14 +57,14 @@ pub record LinesRefused (source : List ℕ) (refusal : ParseRefusal) : Type 0 wh
 
 -- its statements are no units
 pub record StatementsRefused (source : List ℕ) (refusal : ParseRefusal) : Type 0 where
-  pub statements : List Statement
+  pub statements : List PStatement
   pub has_statements : HasStatements source statements
   pub refused : AreNested statements (Err refusal)
 
 -- a statement of its units is not built
 pub record UnitsRefused (source : List ℕ) (number : ℕ) : Type 0 where
-  pub statements : List Statement
-  pub units : List UnitText
+  pub statements : List PStatement
+  pub units : List PUnit
   pub has_units : HasUnits source statements units
   pub least : IsLeastUnbuilt statements number
 
@@ -80,11 +82,11 @@ IsParseRefused source p.Memory = ⊥
 abbrev pub IsCheckRefused : List ℕ → CheckRefusal → Type 0
 IsCheckRefused source (c.TooMany k.Source) = limit k.Source < length source
 IsCheckRefused source c.Memory = ⊥
-IsCheckRefused source refusal = (units : List UnitText) × HasBuiltUnits source units × (checked units ≡ Err refusal)
+IsCheckRefused source refusal = (units : List PUnit) × HasBuiltUnits source units × (checked units ≡ Err refusal)
 
 -- What is answered for the source. Want of memory is free, and has one answer.
 abbrev pub IsProgramOf : List ℕ → Result plain.Program Refusal → Type 0
-IsProgramOf source (Ok program) = (units : List UnitText) × HasBuiltUnits source units × (checked units ≡ Ok program)
+IsProgramOf source (Ok program) = (units : List PUnit) × HasBuiltUnits source units × (checked units ≡ Ok program)
 IsProgramOf source (Err (Lex refusal)) = IsLexRefused source refusal
 IsProgramOf source (Err (Parse refusal)) = IsParseRefused source refusal
 IsProgramOf source (Err (Check refusal)) = IsCheckRefused source refusal

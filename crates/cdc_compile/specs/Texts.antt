@@ -4,14 +4,14 @@ use Rattle.cdc_base.specs.declared.place.Place.{Place}
 use Rattle.cdc_num.specs.Decimal.{decimal_bytes}
 use Rattle.cdc_token.specs.declared.token.LexRefusal.{LexRefusal}
 use Rattle.cdc_token.specs.declared.token.LexRefusal.TheVariants as l
-use Rattle.cdc_parse.specs.declared.refusal.ParseRefusal.{ParseRefusal}
-use Rattle.cdc_parse.specs.declared.refusal.ParseRefusal.TheVariants as p
+use Rattle.cdc_tree.specs.declared.refusal.ParseRefusal.{ParseRefusal}
+use Rattle.cdc_tree.specs.declared.refusal.ParseRefusal.TheVariants as p
 use Rattle.cdc_prog.specs.declared.program.Program.{Program}
 use Rattle.cdc_prog.specs.declared.program.Kind.{Kind}
 use Rattle.cdc_prog.specs.declared.program.Kind.TheVariants as k
+use Rattle.cdc_prog.specs.Limits.{limit}
 use Rattle.cdc_check.specs.declared.refusal.CheckRefusal.{CheckRefusal}
 use Rattle.cdc_check.specs.declared.refusal.CheckRefusal.TheVariants as c
-use Rattle.cdc_compile.specs.Limits.{limit}
 use Rattle.cdc_compile.specs.declared.refusal.Refusal.{Refusal}
 use Rattle.cdc_compile.specs.declared.refusal.Refusal.TheVariants.{Lex, Parse, Check, Memory}
 

@@ -1,33 +1,15 @@
--- The statements that are read and not built yet: DOALL, SUBROUTINE and CALL.
-use Rattle.std.specs.Prelude.{◌≡◌, ℕ, ◌≤◌, Bool, true, false, List, ◌∷◌, ◌++◌}
-use Rattle.cdc_parse.specs.declared.form.Statement.{Statement}
-use Rattle.cdc_parse.specs.Forms.{PForm, FSubroutine, FDoall, FCall, FLogicalIf, form}
-use Rattle.cdc_parse.specs.Units.{EachOne}
-
-abbrev pub is_call : PForm → Bool
-is_call (FCall name actuals) = true
-is_call _ = false
-
--- a CALL also where it is the statement of a logical IF
-abbrev pub is_unbuilt : PForm → Bool
-is_unbuilt (FDoall controls privates) = true
-is_unbuilt (FSubroutine name dummies) = true
-is_unbuilt (FCall name actuals) = true
-is_unbuilt (FLogicalIf condition place simple) = is_call simple
-is_unbuilt _ = false
-
-abbrev pub IsUnbuilt : Statement → Type 0
-IsUnbuilt s = is_unbuilt (form s.form) ≡ true
-
-abbrev pub AllBuilt : List Statement → Type 0
-AllBuilt = EachOne (λ s. IsUnbuilt s → ⊥)
+-- The first statement that is not built yet.
+use Rattle.std.specs.Prelude.{◌≡◌, ℕ, ◌≤◌, List, ◌∷◌, ◌++◌}
+use Rattle.cdc_tree.specs.Forms.{PStatement}
+use Rattle.cdc_tree.specs.Order.{Each}
+use Rattle.cdc_check.specs.Built.{IsUnbuilt}
 
 -- the least line of a statement that is not built
-pub record IsLeastUnbuilt (statements : List Statement) (number : ℕ) : Type 0 where
-  pub before : List Statement
-  pub unbuilt : Statement
-  pub after : List Statement
+pub record IsLeastUnbuilt (statements : List PStatement) (number : ℕ) : Type 0 where
+  pub before : List PStatement
+  pub unbuilt : PStatement
+  pub after : List PStatement
   pub parts : statements ≡ before ++ (unbuilt ∷ after)
   pub is_unbuilt : IsUnbuilt unbuilt
   pub number_is : unbuilt.place.line ≡ number
-  pub least : EachOne (λ s. IsUnbuilt s → number ≤ s.place.line) statements
+  pub least : Each (λ s. IsUnbuilt s → number ≤ s.place.line) statements

@@ -2,8 +2,9 @@
 #![tactic(auto)]
 
 mod accepted;
+#[cfg(test)]
+mod forms_tests;
 mod laws;
-mod limits;
 mod refusal;
 mod refused;
 mod source;

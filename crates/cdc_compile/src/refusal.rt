@@ -1,6 +1,6 @@
 use cdc_check::CheckRefusal;
-use cdc_parse::ParseRefusal;
 use cdc_token::LexRefusal;
+use cdc_tree::ParseRefusal;
 
 /// Why a source is no program: the refusal of the first stage that has one.
 ///

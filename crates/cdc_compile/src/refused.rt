@@ -5,14 +5,13 @@ ghost use Rattle.cdc_text.specs.Pieces.{Wrote};
 ghost use Rattle.cdc_compile.specs.Refusals.{IsNamed};
 ghost use Rattle.cdc_compile.specs.Texts as t;
 
-use crate::limits::limit;
 use crate::refusal::Refusal;
 use cdc_base::{Place, Sink, SinkFault};
 use cdc_check::CheckRefusal;
-use cdc_parse::ParseRefusal;
-use cdc_prog::Kind;
+use cdc_prog::{Kind, limit};
 use cdc_text::{Text, write_texts};
 use cdc_token::LexRefusal;
+use cdc_tree::ParseRefusal;
 
 fn write_place<K: Sink>(out: &mut K, name: &[u8], place: Place) -> Result<(), SinkFault>
     ensures { Wrote (t.at_place name.now place) result (K.taken out.old) (K.taken out.new) (K.faults out.old) (K.faults out.new) }

@@ -1,19 +1,23 @@
 //! From a source to its resolved program.
 
-ghost use Rattle.std.specs.Prelude.{Err, IfOk, IfErr};
+ghost use Rattle.std.specs.Prelude.{map, Err, IfOk, IfErr};
 ghost use Rattle.std.specs.Result.{result_map_both};
+ghost use Rattle.cdc_tree.specs.Forms.{statement};
+ghost use Rattle.cdc_tree.specs.Units.{unit};
+ghost use Rattle.cdc_prog.specs.Premises.{KeepsLoopVariables};
 ghost use Rattle.cdc_prog.specs.Resolved.{IsResolved, IsSerial};
 ghost use Rattle.cdc_prog.specs.Translation.{program_of};
 ghost use Rattle.cdc_compile.specs.Source.{HasLines, HasStatements, HasBuiltUnits, IsProgramOf};
 
-use crate::limits::limit;
 use crate::refusal::Refusal;
 use crate::unbuilt::first_unbuilt;
 use cdc_base::List;
 use cdc_check::{CheckRefusal, check};
-use cdc_parse::{ParseRefusal, Statement, UnitText, statements, units};
-use cdc_prog::{Kind, Program};
+use cdc_nest::units;
+use cdc_parse::statements;
+use cdc_prog::{Kind, Program, limit};
 use cdc_token::{Line, logical_lines};
+use cdc_tree::{ParseRefusal, Statement, UnitText};
 use std::alloc::Global;
 
 fn lines_of(alloc: Global, source: &[u8]) -> Result<List<Line>, Refusal>
@@ -27,7 +31,7 @@ fn lines_of(alloc: Global, source: &[u8]) -> Result<List<Line>, Refusal>
 }
 
 fn statements_of(alloc: Global, source: &[u8]) -> Result<List<Statement>, Refusal>
-    ensures statements { IfOk result (HasStatements source.now) }
+    ensures statements { IfOk result (λ found. HasStatements source.now (map statement found)) }
     ensures refused { IfErr result (λ refusal. IsProgramOf source.now (Err refusal)) }
 {
     let lines = lines_of(alloc, source)?;
@@ -35,7 +39,7 @@ fn statements_of(alloc: Global, source: &[u8]) -> Result<List<Statement>, Refusa
 }
 
 fn units_of(alloc: Global, source: &[u8]) -> Result<List<UnitText>, Refusal>
-    ensures units { IfOk result (HasBuiltUnits source.now) }
+    ensures units { IfOk result (λ found. HasBuiltUnits source.now (map unit found)) }
     ensures refused { IfErr result (λ refusal. IsProgramOf source.now (Err refusal)) }
 {
     let statements = statements_of(alloc, source)?;
@@ -60,6 +64,7 @@ pub fn program(alloc: Global, source: &[u8]) -> Result<Program, Refusal>
     // What is accepted has no DOALL and no CALL yet, and each of its accesses lies in its memory.
     ensures resolved { IfOk result (λ p. IsResolved (program_of p)) }
     ensures serial { IfOk result (λ p. IsSerial (program_of p)) }
+    ensures keeps { IfOk result (λ p. KeepsLoopVariables (program_of p)) }
 {
     let units = units_of(alloc, source)?;
     Ok(check(alloc, &units)?)

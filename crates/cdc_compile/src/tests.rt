@@ -9,7 +9,11 @@ use std::test::Fail;
 
 const ONE: &str = "PROGRAM ONE\nN = 2 + 3\nPRINT *, N + 1\nEND\n";
 
-fn write_answer(alloc: Global, source: &[u8], out: &mut MemSink) -> Result<(), SinkFault> {
+pub(crate) fn write_answer(
+    alloc: Global,
+    source: &[u8],
+    out: &mut MemSink,
+) -> Result<(), SinkFault> {
     match program(alloc, source) {
         Ok(program) => write_accepted(&program, out),
         Err(Refusal::Memory) => write_words(out, b"out of memory\n"),

@@ -7,19 +7,12 @@ mod out_sink;
 mod words;
 
 use cdc_base::NoMemory;
-use cdc_top::run_tool;
+use cdc_top::{OUT_OF_MEMORY, READ_FAULT, WRITE_FAULT, run_tool};
 use file_store::FileStore;
 use out_sink::OutSink;
 use std::process::ExitCode;
 use std::rt::{Env, Files};
 use words::words_of;
-
-// The statuses that the program explains on standard error.
-const READ_FAULT: u8 = 5;
-
-const WRITE_FAULT: u8 = 6;
-
-const NO_MEMORY: u8 = 7;
 
 fn status_of<R: Env + Files + Print + AllocGlobal>(rt: &R) -> Result<u8, NoMemory> {
     let words = words_of(rt)?;
@@ -33,13 +26,13 @@ fn fault_line(status: u8) -> Option<&'static str> {
     match status {
         READ_FAULT => Some("cdcc: read fault"),
         WRITE_FAULT => Some("cdcc: write fault"),
-        NO_MEMORY => Some("cdcc: out of memory"),
+        OUT_OF_MEMORY => Some("cdcc: out of memory"),
         _ => None,
     }
 }
 
 fn main(rt: HostRuntime) -> ExitCode {
-    let status = status_of(&rt).unwrap_or(NO_MEMORY);
+    let status = status_of(&rt).unwrap_or(OUT_OF_MEMORY);
     if let Some(line) = fault_line(status) {
         let _ = rt.eprintln(line);
     }

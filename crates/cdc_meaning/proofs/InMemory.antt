@@ -1,6 +1,5 @@
 -- The elements of a variable lie in memory.
 use Rattle.std.proofs.Common.{◌≡◌, ℕ, zero, suc, ◌+◌, ◌^◌, ◌<◌, ◌≤◌, List, [], ◌∷◌, length, get_or, refl, sym, ap, ◌∙◌, arith}
-use Rattle.std.proofs.lemmas.List.{length-map}
 use Rattle.std.specs.Prelude.{slice_get}
 use Rattle.std.specs.List.{All}
 use Rattle.cdc_prog.specs.declared.expr.Var.{Var}
@@ -16,40 +15,30 @@ use Rattle.cdc_prog.specs.Data.{size_of, dims_in, base_of, dims_of}
 use Rattle.cdc_prog.specs.Resolved.{AreLaidOut, IsVar, ExprFits, SubsFit, SpotFits}
 use Rattle.cdc_prog.proofs.Words.{object_within, bound_to}
 use Rattle.cdc_meaning.specs.declared.frame.Frame.{Frame}
-use Rattle.cdc_meaning.specs.Frames.{shapes_of, binding, IsSound, IsElement}
+use Rattle.cdc_meaning.specs.Frames.{shapes_of, binding, IsPlaced, IsElement}
 
 object_some : (from : ℕ) (os : List Object) (words k : ℕ) → AreLaidOut from os words → k < length os → 0 < size_of (dims_in (slice_get os k))
 object_some from [] words k h lt = absurd (omega (arith, lt))
 object_some from (o ∷ os) words zero h lt = omega (arith, h.1, h.2)
 object_some from (o ∷ os) words (suc k) h lt = object_some (from + o.words) os words k h.3 (omega (arith, lt))
 
-object_few : (os : List Object) (k : ℕ) → All (λ o. length o.dims ≤ 3) os → k < length os → length (dims_in (slice_get os k)) ≤ 3
-object_few [] k h lt = absurd (omega (arith, lt))
-object_few (o ∷ os) zero h lt = h 0 o (omega arith)
-object_few (o ∷ os) (suc k) h lt = object_few os k (λ j d below. h (suc j) d (omega (arith, below))) (omega (arith, lt))
-
 -- the elements of a variable, of which there is one at least, lie in memory
 pub record HasMemory (f : Frame) (v : Var) : Type 0 where
   pub some : 0 < size_of (dims_of (binding f) v)
   pub room : base_of (binding f) v + size_of (dims_of (binding f) v) ≤ f.program.now.words
-  pub few : length (dims_of (binding f) v) ≤ 3
 
-pub in_memory : (f : Frame) (v : Var) → IsSound f → IsVar f.program.now.objects (shapes_of f) 0 v → HasMemory f v
+pub in_memory : (f : Frame) (v : Var) → IsPlaced f → IsVar f.program.now.objects (shapes_of f) 0 v → HasMemory f v
 in_memory f (var.Object k) h is = record {
   some = object_some 0 f.program.now.objects f.program.now.words k h.laid_out is;
   room = object_within 0 f.program.now.objects f.program.now.words k h.laid_out is;
-  few = object_few f.program.now.objects k h.shaped is;
 }
 in_memory f (var.Dummy k) h is =
     let os = f.program.now.objects in
     let j = get_or f.bound.now k 0 in
     let at = bound_to os (shapes_of f) f.bound.now k h.bound is in
-    let many : length (get_or (shapes_of f) k []) ≡ length (dims_in (slice_get os j)) =
-    sym (length-map (get_or (shapes_of f) k []) (λ (d : Dim). d.extent)) ∙ ap length at.extents ∙ length-map (dims_in (slice_get os j)) (λ (d : Dim). d.extent) in
     record {
       some = omega (arith, at.size, object_some 0 os f.program.now.words j h.laid_out at.there);
       room = omega (arith, at.size, object_within 0 os f.program.now.words j h.laid_out at.there);
-      few = omega (arith, many, object_few os j h.shaped at.there);
     }
 in_memory f (var.Slot k) h is = absurd (omega (arith, is))
 
@@ -70,9 +59,8 @@ as_many os shapes slots [] (e ∷ es) h = absurd h
 as_many os shapes slots (d ∷ ds) [] h = absurd h
 as_many os shapes slots (d ∷ ds) (e ∷ es) h = ap suc (as_many os shapes slots ds es h.1)
 
-pub few_subs : (f : Frame) (slots : ℕ) (v : Var) (subs : List Expr) → IsSound f → IsElement f slots v (exprs_of subs) → length subs ≤ 3
-few_subs f slots v subs h is =
-    omega (arith, (in_memory f v h is.known).few, as_many f.program.now.objects (shapes_of f) slots (dims_of (binding f) v) subs is.fits)
+pub dims_many : (f : Frame) (slots : ℕ) (v : Var) (subs : List Expr) (dims : List Dim) → IsElement f slots v (exprs_of subs) → dims ≡ dims_of (binding f) v → length subs ≡ length dims
+dims_many f slots v subs dims is same = as_many f.program.now.objects (shapes_of f) slots (dims_of (binding f) v) subs is.fits ∙ ap length (sym same)
 
 each_fits : (os : List Object) (shapes : List (List Dim)) (slots : ℕ) (dims : List Dim) (subs : List Expr) → SubsFit os shapes slots dims (exprs_of subs) → All (λ e. ExprFits os shapes slots (expr_of e)) subs
 each_fits os shapes slots dims [] h k d lt = absurd (omega (arith, lt))
@@ -83,8 +71,8 @@ each_fits os shapes slots (x ∷ xs) (e ∷ es) h (suc k) d lt = each_fits os sh
 pub subs_fit : (f : Frame) (slots : ℕ) (v : Var) (subs : List Expr) → IsElement f slots v (exprs_of subs) → All (λ e. ExprFits f.program.now.objects (shapes_of f) slots (expr_of e)) subs
 subs_fit f slots v subs is = each_fits f.program.now.objects (shapes_of f) slots (dims_of (binding f) v) subs is.fits
 
-pub size_small : (f : Frame) (slots : ℕ) (v : Var) (subs : Exprs) → IsSound f → IsElement f slots v subs → size_of (dims_of (binding f) v) < 2 ^ 32
+pub size_small : (f : Frame) (slots : ℕ) (v : Var) (subs : Exprs) → IsPlaced f → IsElement f slots v subs → size_of (dims_of (binding f) v) < 2 ^ 32
 size_small f slots v subs h is = omega (arith, (in_memory f v h is.known).room, h.small)
 
-pub size_some : (f : Frame) (slots : ℕ) (v : Var) (subs : Exprs) → IsSound f → IsElement f slots v subs → 0 < size_of (dims_of (binding f) v)
+pub size_some : (f : Frame) (slots : ℕ) (v : Var) (subs : Exprs) → IsPlaced f → IsElement f slots v subs → 0 < size_of (dims_of (binding f) v)
 size_some f slots v subs h is = (in_memory f v h is.known).some

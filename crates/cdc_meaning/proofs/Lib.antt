@@ -1,7 +1,7 @@
 mod InMemory
 mod Values
+mod Subscripts
 mod Moves
-pub mod Opened
 mod Comes
 mod Statements
 mod Answers

@@ -12,15 +12,16 @@ use Rattle.cdc_prog.specs.Expressions.{Surroundings, InWord, scalar, fetch, keep
 use Rattle.cdc_prog.specs.Statements.{raise}
 use Rattle.cdc_prog.specs.Resolved.{TargetFits}
 use Rattle.cdc_prog.specs.Translation.{expr_of, exprs_of, target_of}
-use Rattle.cdc_meaning.specs.declared.frame.Fault.{Fault}
+use Rattle.cdc_prog.specs.declared.fault.Fault.{Fault}
 use Rattle.cdc_meaning.specs.declared.frame.Frame.{Frame}
 use Rattle.cdc_meaning.specs.declared.cell.Cell.{Cell}
 use Rattle.cdc_meaning.specs.declared.cell.Cell.TheVariants.{Word}
 use Rattle.cdc_meaning.specs.Frames.{shapes_of, IsElement}
 use Rattle.cdc_meaning.specs.Cells.{reached}
-use Rattle.cdc_meaning.specs.Runs.{Same, around, Numbers, Locates}
+use Rattle.cdc_prog.specs.Held.{Same, around}
+use Rattle.cdc_meaning.specs.Evaluates.{Numbers, Locates}
 use Rattle.cdc_meaning.proofs.InMemory.{elements_known}
-use Rattle.cdc_meaning.proofs.Values.{same_after}
+use Rattle.cdc_prog.proofs.Same.{same_after}
 
 pub target_needs : (f : Frame) (slots : ℕ) (t : Target) (l : List Expr) → l ≡ t.subs → (length l ≡ 0 → ⊥) → TargetFits f.program.now.objects (shapes_of f) slots (target_of t) → IsElement f slots t.at.var (exprs_of l)
 target_needs f slots t l same some h = go l some (subst (λ (k : List Expr). TargetFits f.program.now.objects (shapes_of f) slots (record { at = t.at; subs = exprs_of k })) (sym same) h)
@@ -35,7 +36,7 @@ module _ (b : Binding) (line : ℕ) (slots : List ℤ) (s : Store) where
     where
       go : (l : List Expr) → (length l ≡ 0 → ⊥) → Numbers b line (dims_of b t.at.var) (exprs_of l) slots s (Err f) → Locates b line (record { at = t.at; subs = exprs_of l }) slots s (Err f)
       go [] some h = absurd (some refl)
-      go (e ∷ es) some h = λ left rest. h left (λ n. rest (InWord t.at.site (base_of b t.at.var + n)))
+      go (e ∷ es) some h = λ left rest. h left (λ n. rest (InWord b.path t.at.site (base_of b t.at.var + n)))
 
   pub target_word : (t : Target) (l : List Expr) (n w : ℕ) → l ≡ t.subs → (length l ≡ 0 → ⊥) → Numbers b line (dims_of b t.at.var) (exprs_of l) slots s (Ok n) → w ≡ base_of b t.at.var + n → Locates b line (target_of t) slots s (Ok (Word w))
   target_word t l n w same some h word =
@@ -44,11 +45,11 @@ module _ (b : Binding) (line : ℕ) (slots : List ℤ) (s : Store) where
     where
       go : (l : List Expr) → (length l ≡ 0 → ⊥) → Numbers b line (dims_of b t.at.var) (exprs_of l) slots s (Ok n) → Locates b line (record { at = t.at; subs = exprs_of l }) slots s (Ok (Word (base_of b t.at.var + n)))
       go [] some h = absurd (some refl)
-      go (e ∷ es) some h = λ left rest. h left (λ m. rest (InWord t.at.site (base_of b t.at.var + m)))
+      go (e ∷ es) some h = λ left rest. h left (λ m. rest (InWord b.path t.at.site (base_of b t.at.var + m)))
 
 pub raised : (b : Binding) (line : ℕ) (again bump : Ref) (by x y : ℤ) (slots after : List ℤ) (s t : Store) (left : Input) (rest : Surroundings → Process) (p q : Cell) →
-    reached again.site p ≡ scalar b again → ((k : ℤ → Process) → Same (fetch (reached again.site p) (around slots left) k) s (k x) s) → binary Add x by ≡ Ok y →
-    reached bump.site q ≡ scalar b bump → Same (keep (reached bump.site q) y (around slots left) rest) s (rest (around after left)) t → Same (raise b line again bump by (around slots left) rest) s (rest (around after left)) t
+    reached b.path again.site p ≡ scalar b again → ((k : ℤ → Process) → Same (fetch (reached b.path again.site p) (around slots left) k) s (k x) s) → binary Add x by ≡ Ok y →
+    reached b.path bump.site q ≡ scalar b bump → Same (keep (reached b.path bump.site q) y (around slots left) rest) s (rest (around after left)) t → Same (raise b line again bump by (around slots left) rest) s (rest (around after left)) t
 raised b line again bump by x y slots after s t left rest p q from fetched sum to kept =
     let c = around slots left in
     let store = λ (v : ℤ). keep (scalar b bump) v c rest in

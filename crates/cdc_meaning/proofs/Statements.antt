@@ -10,12 +10,12 @@ use Rattle.cdc_prog.specs.Input.{Input, take}
 use Rattle.cdc_prog.specs.Process.{Process, or_fail}
 use Rattle.cdc_prog.specs.Expressions as process
 use Rattle.cdc_prog.specs.Expressions.{Surroundings, keep, target}
-use Rattle.cdc_prog.specs.Statements.{Runs, turns, reads, branch}
+use Rattle.cdc_prog.specs.Statements.{Work, turns, reads, branch}
 use Rattle.cdc_prog.specs.Translation.{expr_of, target_of, stmt_of, stmts_of, arms_of}
 use Rattle.cdc_prog.proofs.Translated.{at_arm}
-use Rattle.cdc_meaning.specs.Runs.{Same, around}
+use Rattle.cdc_prog.specs.Held.{store_of, Same, around}
 use Rattle.cdc_meaning.specs.Carried.{State, Follows}
-use Rattle.cdc_meaning.proofs.Values.{same_after}
+use Rattle.cdc_prog.proofs.Same.{same_after}
 use Rattle.cdc_meaning.proofs.Comes.{follows_after, ticked, one_left}
 
 pub one_statement : (statements : List Stmt) (i : ℕ) (s : Stmt) → i < length statements → s ≡ get_or statements i s → stmts_of (drop i statements) ≡ plain.Seq (stmt_of s) (stmts_of (drop (i + 1) statements))
@@ -32,12 +32,12 @@ is_taken (negsuc n) body other some = refl
 pub is_passed : (v : ℤ) (body other : Process) → v ≡ pos 0 → branch v body other ≡ other
 is_passed v body other none = ap (λ (x : ℤ). branch x body other) none
 
-pub one_turn : (texts : List (List ℕ)) (n k : ℕ) (body raised : Runs) (rest : Surroundings → Process) (p : Process) (x y : State) → k < n → Follows texts p x (turns (n - k) body raised y.around rest) y → Follows texts p x (body y.around (λ d. raised d (λ e. turns (n - (k + 1)) body raised e rest))) y
+pub one_turn : (texts : List (List ℕ)) (n k : ℕ) (body raised : Work) (rest : Surroundings → Process) (p : Process) (x y : State) → k < n → Follows texts p x (turns (n - k) body raised y.around rest) y → Follows texts p x (body y.around (λ d. raised d (λ e. turns (n - (k + 1)) body raised e rest))) y
 one_turn texts n k body raised rest p x y lt h =
     let left : n - k ≡ suc (n - (k + 1)) = omega arith in
     follows_after texts (subst (λ m. Follows texts p x (turns m body raised y.around rest) y) left h) (ticked texts)
 
-pub no_turn : (texts : List (List ℕ)) (n k : ℕ) (body raised : Runs) (rest : Surroundings → Process) (p : Process) (x y : State) → n ≤ k → Follows texts p x (turns (n - k) body raised y.around rest) y → Follows texts p x (rest y.around) y
+pub no_turn : (texts : List (List ℕ)) (n k : ℕ) (body raised : Work) (rest : Surroundings → Process) (p : Process) (x y : State) → n ≤ k → Follows texts p x (turns (n - k) body raised y.around rest) y → Follows texts p x (rest y.around) y
 no_turn texts n k body raised rest p x y le h =
     let left : n - k ≡ 0 = omega arith in
     follows_after texts (subst (λ m. Follows texts p x (turns m body raised y.around rest) y) left h) (ticked texts)
@@ -57,8 +57,8 @@ pub one_target : (b : Binding) (line : ℕ) (targets : List Target) (i : ℕ) (a
 one_target b line targets i at slots after s t left later v cell rest lt item located took kept =
     let more = map target_of (drop (i + 1) targets) in
     let next = λ (d : Surroundings). reads b line more d rest in
-    let store = λ (got : ℤ × Input). keep cell got.0 (record { slots = slots; input = got.1 }) next in
-    let k = λ (c : process.Cell). or_fail line (take left) (λ (got : ℤ × Input). keep c got.0 (record { slots = slots; input = got.1 }) next) in
+    let store = λ (got : ℤ × Input). keep cell got.0 (record { slots = store_of slots; input = got.1 }) next in
+    let k = λ (c : process.Cell). or_fail line (take left) (λ (got : ℤ × Input). keep c got.0 (record { slots = store_of slots; input = got.1 }) next) in
     let stored : Same (or_fail line (take left) store) s (next (around after later)) t = subst (λ g. Same (or_fail line g store) s (next (around after later)) t) (sym took) (kept next) in
     let all = same_after (located k) stored in
     subst (λ (l : List Target). Same (reads b line (map target_of l) (around slots left) rest) s (next (around after later)) t) (sym (one_left targets i at lt item))

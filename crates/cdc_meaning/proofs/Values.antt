@@ -1,25 +1,19 @@
 -- From parts of an expression to the expression.
-use Rattle.std.proofs.Common.{◌≡◌, ℕ, suc, ◌+◌, ◌<◌, ℤ, List, [], ◌∷◌, ◌++◌, length, drop, get_or, Ok, Err, sym, ap, ◌∙◌, subst, append_assoc, add-one}
-use Rattle.std.proofs.Math.Seq.{drop-cons}
+use Rattle.std.proofs.Common.{◌≡◌, ℕ, ◌+◌, ℤ, List, Ok, Err, sym, ap, ◌∙◌, subst}
 use Rattle.cdc_prog.specs.declared.expr.Ref.{Ref}
 use Rattle.cdc_prog.specs.declared.expr.Expr.{Expr, Element}
 use Rattle.cdc_prog.specs.Plain as plain
 use Rattle.cdc_prog.specs.Data.{Store, Binding, base_of, dims_of}
-use Rattle.cdc_prog.specs.Input.{Input}
-use Rattle.cdc_prog.specs.Process.{Process, Load}
-use Rattle.cdc_prog.specs.Expressions.{exprs}
+use Rattle.cdc_prog.specs.Process.{Load}
 use Rattle.cdc_prog.specs.InOrder.{output, ends}
 use Rattle.cdc_prog.specs.Resolved.{ExprFits}
 use Rattle.cdc_prog.specs.Translation.{expr_of, exprs_of}
 use Rattle.cdc_prog.proofs.Translated.{at_element}
-use Rattle.cdc_meaning.specs.declared.frame.Fault.{Fault}
+use Rattle.cdc_prog.specs.declared.fault.Fault.{Fault}
 use Rattle.cdc_meaning.specs.declared.frame.Frame.{Frame}
 use Rattle.cdc_meaning.specs.Frames.{shapes_of, IsElement}
-use Rattle.cdc_meaning.specs.Runs.{Same, around, Values, Numbers}
+use Rattle.cdc_meaning.specs.Evaluates.{Values, Numbers}
 use Rattle.cdc_meaning.proofs.InMemory.{element_fits}
-
-pub same_after : {p q r : Process} {s t u : Store} → Same p s q t → Same q t r u → Same p s r u
-same_after h k = record { output = h.output ∙ k.output; ends = h.ends ∙ k.ends }
 
 is_element : (e : Expr) (at : Ref) (subs l : List Expr) → e ≡ Element at subs → l ≡ subs → expr_of e ≡ plain.Element at (exprs_of l)
 is_element e at subs l is same = ap expr_of is ∙ at_element at subs ∙ ap (λ k. plain.Element at (exprs_of k)) (sym same)
@@ -32,24 +26,12 @@ module _ (b : Binding) (line : ℕ) (slots : List ℤ) (s : Store) where
   pub element_fault : (e : Expr) (at : Ref) (subs l : List Expr) (f : Fault) → e ≡ Element at subs → l ≡ subs → Numbers b line (dims_of b at.var) (exprs_of l) slots s (Err f) → Values b line (expr_of e) slots s (Err f)
   element_fault e at subs l f is same h =
       subst (λ t. Values b line t slots s (Err f)) (sym (is_element e at subs l is same))
-      (λ left rest. let k = h left (λ n. Load at.site (base_of b at.var + n) rest) in record { output = k.output; ends = k.ends })
+      (λ left rest. let k = h left (λ n. Load b.path at.site (base_of b at.var + n) rest) in record { output = k.output; ends = k.ends })
 
   pub element_value : (e : Expr) (at : Ref) (subs l : List Expr) (n w : ℕ) (v : ℤ) → e ≡ Element at subs → l ≡ subs → Numbers b line (dims_of b at.var) (exprs_of l) slots s (Ok n) → w ≡ base_of b at.var + n → v ≡ s w → Values b line (expr_of e) slots s (Ok v)
   element_value e at subs l n w v is same h word value =
       subst (λ t. Values b line t slots s (Ok v)) (sym (is_element e at subs l is same))
       (λ left rest.
-      let k = h left (λ m. Load at.site (base_of b at.var + m) rest) in
+      let k = h left (λ m. Load b.path at.site (base_of b at.var + m) rest) in
       let found : s (base_of b at.var + n) ≡ v = sym (value ∙ ap s word) in
       record { output = k.output ∙ ap (λ x. output (rest x) s) found; ends = k.ends ∙ ap (λ x. ends (rest x) s) found })
-
-  -- one more subscript
-  pub one_more : (subs : List Expr) (i : ℕ) (e : Expr) (v : ℤ) (found after : List ℤ) (left : Input) (rest : List ℤ → Process) → i < length subs → e ≡ get_or subs i e → Values b line (expr_of e) slots s (Ok v) → after ≡ found ++ v ∷ [] →
-      Same (exprs b line (exprs_of (drop i subs)) (around slots left) (λ vs. rest (found ++ vs))) s (exprs b line (exprs_of (drop (i + 1) subs)) (around slots left) (λ vs. rest (after ++ vs))) s
-  one_more subs i e v found after left rest lt item h is =
-      let d : drop i subs ≡ e ∷ drop (i + 1) subs = rw (add-one, drop-cons subs i e) (ap (λ x. x ∷ drop (suc i) subs) (sym item)) in
-      let es = exprs_of (drop (i + 1) subs) in
-      let all = λ (vs : List ℤ). sym (ap (λ l. l ++ vs) is ∙ append_assoc found (v ∷ []) vs) in
-      let k : (λ (vs : List ℤ). rest (found ++ v ∷ vs)) ≡ (λ (vs : List ℤ). rest (after ++ vs)) = λ j vs. rest (all vs j) in
-      subst (λ l. Same (exprs b line (exprs_of l) (around slots left) (λ vs. rest (found ++ vs))) s (exprs b line es (around slots left) (λ vs. rest (after ++ vs))) s) (sym d)
-      (subst (λ (r : List ℤ → Process). Same (exprs b line (plain.More (expr_of e) es) (around slots left) (λ vs. rest (found ++ vs))) s (exprs b line es (around slots left) r) s) k
-      (h left (λ x. exprs b line es (around slots left) (λ vs. rest (found ++ x ∷ vs)))))

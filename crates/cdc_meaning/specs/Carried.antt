@@ -1,75 +1,83 @@
 -- What code that carries out statements owes to the sink: the bytes that are taken go on with those that the process prints.
-use Rattle.std.specs.Prelude.{◌≡◌, ℕ, ◌≤◌, ◌<◌, ℤ, Bool, List, length, Option, Some, None, Result, Ok, Err}
+use Rattle.std.specs.Prelude.{◌≡◌, ℕ, ◌≤◌, ℤ, Bool, true, false, List, ◌∷◌, length, Option, Some, None, Result, Ok, Err}
 use Rattle.cdc_base.specs.Outside.{grown}
 use Rattle.cdc_base.specs.Causes.{Rose}
+use Rattle.cdc_base.specs.Gathered.{waiting}
 use Rattle.cdc_prog.specs.Data.{Store}
 use Rattle.cdc_prog.specs.Input.{Input}
-use Rattle.cdc_prog.specs.Process as process
 use Rattle.cdc_prog.specs.Process.{Process, Fail}
 use Rattle.cdc_prog.specs.Expressions.{Surroundings}
-use Rattle.cdc_prog.specs.Statements.{Runs}
+use Rattle.cdc_prog.specs.Plain.{Item, Stmt}
+use Rattle.cdc_prog.specs.Statements.{Calls, Work, items, stmt}
 use Rattle.cdc_prog.specs.InOrder.{output, ends}
 use Rattle.cdc_prog.specs.Lines.{opened}
 use Rattle.cdc_prog.specs.Meaning.{bytes_of}
-use Rattle.cdc_meaning.specs.declared.print.Piece.{Piece}
-use Rattle.cdc_meaning.specs.declared.print.Piece.TheVariants.{Number, Space, Text, LineEnd}
 use Rattle.cdc_meaning.specs.declared.print.Stop.{Stop}
 use Rattle.cdc_meaning.specs.declared.print.Stop.TheVariants.{Faulted, Sink}
-use Rattle.cdc_meaning.specs.Runs.{store_of, around}
+use Rattle.cdc_prog.specs.Held.{store_of, around}
+use Rattle.cdc_prog.specs.Unread.{left_of}
+use Rattle.cdc_meaning.specs.declared.exec.Streams.{Streams}
+use Rattle.cdc_meaning.specs.declared.print.Page.{Page}
+use Rattle.cdc_meaning.specs.declared.frame.Frame.{Frame}
+use Rattle.cdc_meaning.specs.Frames.{binding}
 
--- what is printed at once
-abbrev pub spoken : Piece → process.Piece
-spoken (Number v) = process.Number v
-spoken Space = process.Space
-spoken (Text k) = process.Text k
-spoken LineEnd = process.LineEnd
-
--- a text is one of so many
-abbrev pub IsThere : (texts : ℕ) → Piece → Type 0
-IsThere texts (Text k) = k < texts
-IsThere texts piece = Unit {0}
-
--- what was printed: the bytes that the sink took, where they are told, and whether their last line is open
-pub record Page : Type 0 where
-  pub taken : Option (List ℕ)
+-- what was printed: the bytes, where the sink tells those that it took, and whether their last line is open
+pub record Printed : Type 0 where
+  pub bytes : Option (List ℕ)
   pub is_open : Bool
 
-abbrev pub printed : Page → List ℕ → Page
-printed page bytes = record { taken = grown page.taken bytes; is_open = opened page.is_open bytes }
+abbrev pub printed_with : Printed → List ℕ → Printed
+printed_with printed bytes = record { bytes = grown printed.bytes bytes; is_open = opened printed.is_open bytes }
 
--- what statements work on: the store, the surroundings, and what was printed, with the count of the sink's faults
+-- where output goes: the bytes that the sink took, where they are told, those that wait for it, whether the last line is open, and the count of the sink's faults
+pub record Output : Type 0 where
+  pub taken : Option (List ℕ)
+  pub waits : List ℕ
+  pub is_open : Bool
+  pub faults : ℕ
+
+abbrev pub output_of : (taken : Option (List ℕ)) → Page → (faults : ℕ) → Output
+output_of taken page faults = record { taken = taken; waits = waiting page.gathered; is_open = page.is_open; faults = faults }
+
+-- what was printed so far: what the sink took, and what waits for it
+abbrev pub printed_so_far : Output → Printed
+printed_so_far o = record { bytes = grown o.taken o.waits; is_open = o.is_open }
+
+-- what statements work on: the store, the surroundings, and where output goes
 pub record State : Type 0 where
   pub store : Store
   pub around : Surroundings
-  pub page : Page
-  pub faults : ℕ
+  pub output : Output
 
-abbrev pub state : (words slots : List ℤ) → Input → (taken : Option (List ℕ)) → (is_open : Bool) → (faults : ℕ) → State
-state words slots left taken is_open faults =
-    record { store = store_of words; around = around slots left; page = record { taken = taken; is_open = is_open }; faults = faults }
+abbrev pub state : (words slots : List ℤ) → Input → Output → State
+state words slots left output = record { store = store_of words; around = around slots left; output = output }
+
+-- the streams are what is left of the input, and what was printed
+abbrev pub state_of : (words slots : List ℤ) → Streams → (taken : Option (List ℕ)) → (faults : ℕ) → State
+state_of words slots streams taken faults = state words slots (left_of streams.unread) (output_of taken streams.page faults)
 
 abbrev pub size_of_taken : Option (List ℕ) → ℕ
 size_of_taken None = 0
 size_of_taken (Some bytes) = length bytes
 
 -- what will have been printed when a process has printed
-abbrev pub whole : (texts : List (List ℕ)) → Process → State → Page
-whole texts p x = printed x.page (bytes_of texts (output p x.store))
+abbrev pub whole : (texts : List (List ℕ)) → Process → State → Printed
+whole texts p x = printed_with (printed_so_far x.output) (bytes_of texts (output p x.store))
 
 -- one process in its state prints what the other still has to print in its own, beside what was printed between, and ends as it does
 pub record Follows (texts : List (List ℕ)) (p : Process) (x : State) (q : Process) (y : State) : Type 0 where
   pub whole : whole texts p x ≡ whole texts q y
   pub ends : ends p x.store ≡ ends q y.store
-  pub longer : size_of_taken x.page.taken ≤ size_of_taken y.page.taken
-  pub faults : y.faults ≡ x.faults
+  pub longer : size_of_taken x.output.taken ≤ size_of_taken y.output.taken
+  pub faults : y.output.faults ≡ x.output.faults
 
 -- the sink failed when it had taken a front of what the process prints
 pub record IsCut (texts : List (List ℕ)) (p : Process) (x y : State) : Type 0 where
   pub left : List ℕ
-  pub front : grown y.page.taken left ≡ (whole texts p x).taken
-  pub longer : size_of_taken x.page.taken ≤ size_of_taken y.page.taken
-  pub later : x.faults ≤ y.faults
-  pub rose : Rose x.faults y.faults
+  pub front : grown y.output.taken left ≡ (whole texts p x).bytes
+  pub longer : size_of_taken x.output.taken ≤ size_of_taken y.output.taken
+  pub later : x.output.faults ≤ y.output.faults
+  pub rose : Rose x.output.faults y.output.faults
 
 -- what a process comes to, a fault, or a failure of the sink
 abbrev pub Comes : (texts : List (List ℕ)) → Process → State → Result (Unit {0}) Stop → Process → State → Type 0
@@ -78,5 +86,25 @@ Comes texts p x (Err (Faulted f)) q y = Follows texts p x (Fail f.kind f.line) y
 Comes texts p x (Err Sink) q y = IsCut texts p x y
 
 -- whatever follows
-abbrev pub Carried : (texts : List (List ℕ)) → Runs → State → Result (Unit {0}) Stop → State → Type 0
+abbrev pub Carried : (texts : List (List ℕ)) → Work → State → Result (Unit {0}) Stop → State → Type 0
 Carried texts runs x result y = (rest : Surroundings → Process) → Comes texts (runs x.around rest) x result (rest y.around) y
+
+-- so do statements, in a frame
+abbrev pub DoesStmt : Frame → Stmt → State → Result (Unit {0}) Stop → State → Type 0
+DoesStmt f s x result y = (calls : Calls) → Carried f.program.now.texts (stmt calls (binding f) s) x result y
+
+-- what prints alone comes to what follows, whatever the store and the surroundings are
+abbrev pub Says : (texts : List (List ℕ)) → (Process → Process) → Output → Result (Unit {0}) Stop → Output → Type 0
+Says texts p x result y =
+    (words slots : List ℤ) (left : Input) (rest : Process) → Comes texts (p rest) (state words slots left x) result rest (state words slots left y)
+
+-- an item of a PRINT comes to the items after it
+abbrev pub ShowsItem : Frame → (words slots : List ℤ) → (line : ℕ) → (first : Bool) → Item → Output → Result (Unit {0}) Stop → Output → Type 0
+ShowsItem f words slots line first i x result y =
+    (left : Input) (more : List Item) (rest : Process) → let c = around slots left in Comes f.program.now.texts (items (binding f) line first (i ∷ more) c rest) (state words slots left x)
+    result (items (binding f) line false more c rest) (state words slots left y)
+
+-- the items of a PRINT and the end of their line come to what follows
+abbrev pub ShowsItems : Frame → (words slots : List ℤ) → (line : ℕ) → List Item → Output → Result (Unit {0}) Stop → Output → Type 0
+ShowsItems f words slots line shown x result y =
+    (left : Input) (rest : Process) → Comes f.program.now.texts (items (binding f) line true shown (around slots left) rest) (state words slots left x) result rest (state words slots left y)

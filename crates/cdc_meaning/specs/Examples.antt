@@ -1,9 +1,8 @@
 -- Small programs, as trees.
-use Rattle.std.specs.Prelude.{[], ◌∷◌}
-use Rattle.cdc_prog.specs.declared.expr.BinOp.TheVariants.{Div}
-use Rattle.cdc_prog.specs.Plain.{Program, Bin}
-use Rattle.cdc_prog.specs.Examples.{num, print, main_unit, program}
+use Rattle.std.specs.Prelude.{ℕ, List, [], ◌∷◌}
+use Rattle.cdc_prog.specs.declared.program.Object.{Object}
+use Rattle.cdc_prog.specs.Plain.{Stmt, Program}
 
--- PRINT *, 7, 1 / 0
-abbrev pub divided : Program
-divided = program (main_unit (print 2 (num 7 ∷ Bin Div (num 1) (num 0) ∷ []) ∷ []) ∷ []) [] []
+-- a program of one unit, without texts
+abbrev pub alone : Stmt → List Object → (words : ℕ) → Program
+alone body objects words = record { units = record { name = []; dummies = []; body = body } ∷ []; main = 0; objects = objects; texts = []; sites = 0; doalls = 0; words = words }

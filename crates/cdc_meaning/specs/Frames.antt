@@ -1,5 +1,5 @@
 -- What the variables of a unit stand for, as code holds it.
-use Rattle.std.specs.Prelude.{ℕ, ◌^◌, ◌≤◌, List, map, length}
+use Rattle.std.specs.Prelude.{ℕ, ◌^◌, ◌≤◌, List, [], map, length}
 use Rattle.std.specs.List.{All}
 use Rattle.cdc_prog.specs.declared.program.Dim.{Dim}
 use Rattle.cdc_prog.specs.declared.expr.Var.{Var}
@@ -12,11 +12,12 @@ use Rattle.cdc_meaning.specs.declared.frame.Frame.{Frame}
 abbrev pub shapes_of : Frame → List (List Dim)
 shapes_of f = map (λ d. d.dims) f.dummies.now
 
+-- serial code without CALL is that of the PROGRAM unit, whose call path is empty
 abbrev pub binding : Frame → Binding
-binding f = record { objects = f.program.now.objects; shapes = shapes_of f; bound = f.bound.now }
+binding f = record { path = []; objects = f.program.now.objects; shapes = shapes_of f; bound = f.bound.now }
 
 -- the objects lie in the memory of the program, and each dummy is bound
-pub record IsSound (f : Frame) : Type 0 where
+pub record IsPlaced (f : Frame) : Type 0 where
   pub laid_out : AreLaidOut 0 f.program.now.objects f.program.now.words
   pub shaped : All (λ o. length o.dims ≤ 3) f.program.now.objects
   pub small : f.program.now.words ≤ 2 ^ 22

@@ -1,8 +1,7 @@
-pub mod Arithmetic
 pub mod Frames
 pub mod Cells
-pub mod Runs
-pub mod Unread
+pub mod Evaluates
+pub mod Folded
 pub mod Carried
 pub mod Loops
 pub mod Answers

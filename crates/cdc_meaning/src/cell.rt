@@ -1,12 +1,10 @@
 // Cells: slots of an iteration and words of memory.
-ghost use Rattle.std.specs.Prelude.{◌≡◌, ℕ, length, ℤ};
-ghost use Rattle.cdc_prog.specs.Input.{Input};
-ghost use Rattle.cdc_prog.specs.Process.{Process};
-ghost use Rattle.cdc_prog.specs.Expressions.{Surroundings, scalar_of, fetch, keep};
+ghost use Rattle.std.specs.Prelude.{◌≡◌, ℕ, length};
+ghost use Rattle.cdc_prog.specs.Expressions.{scalar_of};
+ghost use Rattle.cdc_prog.specs.Held.{store_of};
 ghost use Rattle.cdc_prog.specs.Resolved.{IsScalar};
-ghost use Rattle.cdc_meaning.specs.Frames.{shapes_of, binding, IsSound};
-ghost use Rattle.cdc_meaning.specs.Cells.{reached, IsWithin};
-ghost use Rattle.cdc_meaning.specs.Runs.{store_of, around, Same};
+ghost use Rattle.cdc_meaning.specs.Frames.{shapes_of, binding, IsPlaced};
+ghost use Rattle.cdc_meaning.specs.Cells.{reached, IsWithin, Fetches, Keeps};
 
 use crate::frame::Frame;
 use cdc_prog::Var;
@@ -21,10 +19,11 @@ pub enum Cell {
 }
 
 /// The cell of a scalar.
+#[inline]
 pub fn scalar(frame: &Frame, slots: &[i64], var: Var) -> Cell
-    requires sound { IsSound frame.now }
+    requires placed { IsPlaced frame.now }
     requires known { IsScalar frame.now.program.now.objects (shapes_of frame.now) (length slots.now) var }
-    ensures cell { (site : ℕ) → reached site result ≡ scalar_of (binding frame.now) site var }
+    ensures cell { (site : ℕ) → reached (binding frame.now).path site result ≡ scalar_of (binding frame.now) site var }
     ensures within { IsWithin frame.now.program.now.words (length slots.now) result }
 {
     match var {
@@ -34,9 +33,10 @@ pub fn scalar(frame: &Frame, slots: &[i64], var: Var) -> Cell
 }
 
 /// The value of a cell.
+#[inline]
 pub fn fetch(words: &[i64], slots: &[i64], cell: Cell) -> i64
     requires { IsWithin (length words.now) (length slots.now) cell }
-    ensures { (site : ℕ) (left : Input) (rest : ℤ → Process) → Same (fetch (reached site cell) (around slots.now left) rest) (store_of words.now) (rest result) (store_of words.now) }
+    ensures { Fetches cell slots.now (store_of words.now) result }
 {
     match cell {
         Cell::Slot(k) => slots[k as usize],
@@ -45,9 +45,10 @@ pub fn fetch(words: &[i64], slots: &[i64], cell: Cell) -> i64
 }
 
 /// Stores a value in a cell.
+#[inline]
 pub fn keep(words: &mut [i64], slots: &mut [i64], cell: Cell, value: i64)
     requires { IsWithin (length words.old) (length slots.old) cell }
-    ensures { (site : ℕ) (left : Input) (rest : Surroundings → Process) → Same (keep (reached site cell) value (around slots.old left) rest) (store_of words.old) (rest (around slots.new left)) (store_of words.new) }
+    ensures { Keeps cell value slots.old (store_of words.old) slots.new (store_of words.new) }
 {
     match cell {
         Cell::Slot(k) => slots[k as usize] = value,

@@ -1,28 +1,25 @@
 // Statements.
-ghost use Rattle.std.specs.Prelude.{◌≡◌, ℕ, List, length};
+ghost use Rattle.std.specs.Prelude.{◌≡◌, length};
 ghost use Rattle.cdc_prog.specs.Bodies.{HasOnly};
 ghost use Rattle.cdc_prog.specs.Resolved.{IsScalar, StmtFits};
-ghost use Rattle.cdc_prog.specs.Statements.{Runs, stmt};
-ghost use Rattle.cdc_meaning.specs.Loops.{turns_left};
+ghost use Rattle.cdc_meaning.specs.Loops.{DoesTurns};
 ghost use Rattle.cdc_prog.specs.Translation.{stmt_of, stmts_of, program_of};
-ghost use Rattle.cdc_meaning.specs.Frames.{shapes_of, binding, IsSound};
-ghost use Rattle.cdc_meaning.specs.Unread.{left_of};
-ghost use Rattle.cdc_meaning.specs.Carried.{state, Carried};
+ghost use Rattle.cdc_meaning.specs.Frames.{shapes_of, IsPlaced};
+ghost use Rattle.cdc_meaning.specs.Carried.{state_of, DoesStmt};
 
 use crate::expr::value;
 use crate::frame::Frame;
-use crate::print::{Stop, print};
-use crate::read::{Unread, read};
+use crate::print::{Page, Stop, print};
+use crate::read::read;
 use crate::steps::{Turns, assign, begin, raise};
 use cdc_base::Sink;
-use cdc_prog::Stmt;
+use cdc_prog::{Stmt, Unread};
 
-/// What is left of the input, and whether the line that was printed last is open.
-#[derive(Clone, Copy)]
+/// What is left of the input, and what was printed.
+#[derive(Drop)]
 pub struct Streams<'a> {
     pub unread: Unread<'a>,
-    /// Bytes stand behind the last line end that was printed.
-    pub is_open: bool,
+    pub page: Page,
 }
 
 /// Carries out a statement of serial code that has no DOALL and no CALL.
@@ -39,11 +36,11 @@ pub fn exec<K: Sink>(
     out: &mut K,
     statement: &Stmt,
 ) -> Result<(), Stop>
-    requires sound { IsSound frame.now }
+    requires placed { IsPlaced frame.now }
     requires room { length words.old ≡ frame.now.program.now.words }
     requires fits { StmtFits (program_of frame.now.program.now) (λ u. 0) 0 (shapes_of frame.now) (length slots.old) (stmt_of statement.now) }
     requires serial { HasOnly (Unit {0}) ⊥ ⊥ (stmt_of statement.now) }
-    ensures { (calls : ℕ → List ℕ → Runs) → Carried frame.now.program.now.texts (stmt calls (binding frame.now) (stmt_of statement.now)) (state words.old slots.old (left_of streams.old.unread) (K.taken out.old) streams.old.is_open (K.faults out.old)) result (state words.new slots.new (left_of streams.new.unread) (K.taken out.new) streams.new.is_open (K.faults out.new)) }
+    ensures { DoesStmt frame.now (stmt_of statement.now) (state_of words.old slots.old streams.old (K.taken out.old) (K.faults out.old)) result (state_of words.new slots.new streams.new (K.taken out.new) (K.faults out.new)) }
 {
     match statement {
         Stmt::Assign {
@@ -78,7 +75,7 @@ pub fn exec<K: Sink>(
             words,
             slots,
             out,
-            &mut streams.is_open,
+            &mut streams.page,
             *line,
             items.as_slice(),
         ),
@@ -93,8 +90,7 @@ pub fn exec<K: Sink>(
             )?;
             Ok(())
         }
-        // There is neither in such code.
-        Stmt::Doall { .. } | Stmt::Call { .. } => Ok(()),
+        Stmt::Doall { .. } | Stmt::Call { .. } => unreachable!(),
     }
 }
 
@@ -112,11 +108,11 @@ pub fn exec_all<K: Sink>(
     out: &mut K,
     statements: &[Stmt],
 ) -> Result<(), Stop>
-    requires sound { IsSound frame.now }
+    requires placed { IsPlaced frame.now }
     requires room { length words.old ≡ frame.now.program.now.words }
     requires fits { StmtFits (program_of frame.now.program.now) (λ u. 0) 0 (shapes_of frame.now) (length slots.old) (stmts_of statements.now) }
     requires serial { HasOnly (Unit {0}) ⊥ ⊥ (stmts_of statements.now) }
-    ensures { (calls : ℕ → List ℕ → Runs) → Carried frame.now.program.now.texts (stmt calls (binding frame.now) (stmts_of statements.now)) (state words.old slots.old (left_of streams.old.unread) (K.taken out.old) streams.old.is_open (K.faults out.old)) result (state words.new slots.new (left_of streams.new.unread) (K.taken out.new) streams.new.is_open (K.faults out.new)) }
+    ensures { DoesStmt frame.now (stmts_of statements.now) (state_of words.old slots.old streams.old (K.taken out.old) (K.faults out.old)) result (state_of words.new slots.new streams.new (K.taken out.new) (K.faults out.new)) }
 {
     for statement in statements {
         exec(frame, words, slots, streams, out, statement)?;
@@ -135,13 +131,13 @@ fn repeat<K: Sink>(
     body: &[Stmt],
     turns: Turns,
 ) -> Result<(), Stop>
-    requires sound { IsSound frame.now }
+    requires placed { IsPlaced frame.now }
     requires room { length words.old ≡ frame.now.program.now.words }
     requires fits { StmtFits (program_of frame.now.program.now) (λ u. 0) 0 (shapes_of frame.now) (length slots.old) (stmts_of body.now) }
     requires serial { HasOnly (Unit {0}) ⊥ ⊥ (stmts_of body.now) }
     requires again { IsScalar frame.now.program.now.objects (shapes_of frame.now) (length slots.old) turns.again.var }
     requires bump { IsScalar frame.now.program.now.objects (shapes_of frame.now) (length slots.old) turns.bump.var }
-    ensures { (calls : ℕ → List ℕ → Runs) → Carried frame.now.program.now.texts (turns_left turns.count (binding frame.now) turns (stmt calls (binding frame.now) (stmts_of body.now))) (state words.old slots.old (left_of streams.old.unread) (K.taken out.old) streams.old.is_open (K.faults out.old)) result (state words.new slots.new (left_of streams.new.unread) (K.taken out.new) streams.new.is_open (K.faults out.new)) }
+    ensures { DoesTurns frame.now turns (stmts_of body.now) (state_of words.old slots.old streams.old (K.taken out.old) (K.faults out.old)) result (state_of words.new slots.new streams.new (K.taken out.new) (K.faults out.new)) }
 {
     for _ in 0..turns.count {
         exec_all(frame, words, slots, streams, out, body)?;

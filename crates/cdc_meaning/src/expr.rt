@@ -1,98 +1,104 @@
-// Expressions.
-ghost use Rattle.std.specs.Prelude.{◌≡◌, ◌<◌, ◌≤◌, length, IfOk};
-ghost use Rattle.std.specs.List.{All};
+// Expressions: their values, where none of their operations faults.
+ghost use Rattle.std.specs.Prelude.{◌≡◌, ◌<◌, length, IfOk, IfSome};
 ghost use Rattle.cdc_prog.specs.Data.{size_of, dims_of};
+ghost use Rattle.cdc_prog.specs.Held.{store_of};
 ghost use Rattle.cdc_prog.specs.Resolved.{ExprFits, TargetFits};
 ghost use Rattle.cdc_prog.specs.Translation.{expr_of, exprs_of, target_of};
-ghost use Rattle.cdc_meaning.specs.Frames.{shapes_of, binding, IsSound, IsElement};
+ghost use Rattle.cdc_meaning.specs.Frames.{shapes_of, binding, IsPlaced, IsElement};
 ghost use Rattle.cdc_meaning.specs.Cells.{IsWithin};
-ghost use Rattle.cdc_meaning.specs.Runs.{store_of, IsAt, Values, Numbers, Lists, Locates};
+ghost use Rattle.cdc_meaning.specs.Evaluates.{IsAt, Notes, Gives, GivesNumber, Values, Locates};
 
 use crate::cell::{Cell, fetch, scalar};
-use crate::frame::{Fault, Frame};
-use crate::operators::{binary, unary};
-use arrayvec::ArrayVec;
-use cdc_prog::{Expr, FaultKind, Target, Var, element};
+use crate::folded::Folded;
+use crate::frame::Frame;
+use cdc_prog::{Expr, Fault, FaultKind, Target, Var, binary, unary};
 
 /// The value of an expression (ISO/IEC 1539:1991, section 7).
 ///
 /// # Errors
 ///
 /// The first fault, at the line.
-#[cycle(value)]
+#[inline(always)]
 pub fn value(frame: &Frame, words: &[i64], slots: &[i64], line: u32, e: &Expr) -> Result<i64, Fault>
-    requires sound { IsSound frame.now }
+    requires placed { IsPlaced frame.now }
     requires room { length words.now ≡ frame.now.program.now.words }
     requires fits { ExprFits frame.now.program.now.objects (shapes_of frame.now) (length slots.now) (expr_of e.now) }
     ensures { Values (binding frame.now) line (expr_of e.now) slots.now (store_of words.now) result }
 {
+    let mut kind = FaultKind::Overflow;
+    match evaluate(frame, words, slots, e, &mut kind) {
+        Some(value) => Ok(value),
+        None => Err(Fault { kind, line }),
+    }
+}
+
+// The value of an expression, which stays in registers; where it faults there is none, and the kind of the fault is kept.
+#[cycle(evaluate)]
+fn evaluate(
+    frame: &Frame,
+    words: &[i64],
+    slots: &[i64],
+    e: &Expr,
+    kind: &mut FaultKind,
+) -> Option<i64>
+    requires placed { IsPlaced frame.now }
+    requires room { length words.now ≡ frame.now.program.now.words }
+    requires fits { ExprFits frame.now.program.now.objects (shapes_of frame.now) (length slots.now) (expr_of e.now) }
+    ensures { Gives (binding frame.now) (expr_of e.now) slots.now (store_of words.now) result kind.new }
+{
     match e {
-        Expr::Number(n) => Ok(*n),
-        Expr::Scalar(at) => Ok(fetch(words, slots, scalar(frame, slots, at.var))),
+        Expr::Number(n) => Some(*n),
+        Expr::Scalar(at) => Some(fetch(words, slots, scalar(frame, slots, at.var))),
         Expr::Element(at, subs) => {
-            let n = number(frame, words, slots, line, at.var, subs.as_slice())?;
-            Ok(words[frame.word(at.var, n) as usize])
+            let n = number(frame, words, slots, at.var, subs.as_slice(), kind)?;
+            Some(words[frame.word(at.var, n) as usize])
         }
         Expr::Un(op, a) => {
-            let x = value(frame, words, slots, line, a)?;
-            let v = at_line(unary(*op, x), line)?;
-            Ok(v)
+            let x = operand(frame, words, slots, a, kind)?;
+            noted(unary(*op, x), kind)
         }
         Expr::Bin(op, a, b) => {
-            let x = value(frame, words, slots, line, a)?;
-            let y = value(frame, words, slots, line, b)?;
-            let v = at_line(binary(*op, x, y), line)?;
-            Ok(v)
+            let x = operand(frame, words, slots, a, kind)?;
+            let y = operand(frame, words, slots, b, kind)?;
+            noted(binary(*op, x, y), kind)
         }
     }
 }
 
-/// The number of an array element, from 0: all subscripts are evaluated in order, and then the
-/// bounds are tested (ISO/IEC 1539:1991, section 6.2.2).
-///
-/// # Errors
-///
-/// The first fault, at the line.
-#[cycle(value)]
-pub fn number(
+// The value of an operand; a number and a scalar are read in place.
+#[cycle(evaluate)]
+#[inline(always)]
+fn operand(
     frame: &Frame,
     words: &[i64],
     slots: &[i64],
-    line: u32,
-    var: Var,
-    subs: &[Expr],
-) -> Result<u32, Fault>
-    requires sound { IsSound frame.now }
+    e: &Expr,
+    kind: &mut FaultKind,
+) -> Option<i64>
+    requires placed { IsPlaced frame.now }
     requires room { length words.now ≡ frame.now.program.now.words }
-    requires element { IsElement frame.now (length slots.now) var (exprs_of subs.now) }
-    ensures number { Numbers (binding frame.now) line (dims_of (binding frame.now) var) (exprs_of subs.now) slots.now (store_of words.now) result }
-    ensures within { IfOk result (λ n. n < size_of (dims_of (binding frame.now) var)) }
+    requires fits { ExprFits frame.now.program.now.objects (shapes_of frame.now) (length slots.now) (expr_of e.now) }
+    ensures { Gives (binding frame.now) (expr_of e.now) slots.now (store_of words.now) result kind.new }
 {
-    let found = values(frame, words, slots, line, subs)?;
-    at_line(element(frame.dims(var), found.as_slice()), line)
+    match e {
+        Expr::Number(n) => Some(*n),
+        Expr::Scalar(at) => Some(fetch(words, slots, scalar(frame, slots, at.var))),
+        _ => evaluate(frame, words, slots, e, kind),
+    }
 }
 
-// The values of subscripts, of which there are three at most.
-#[cycle(value)]
-fn values(
-    frame: &Frame,
-    words: &[i64],
-    slots: &[i64],
-    line: u32,
-    subs: &[Expr],
-) -> Result<ArrayVec<i64, 3>, Fault>
-    requires sound { IsSound frame.now }
-    requires room { length words.now ≡ frame.now.program.now.words }
-    requires fits { All (λ e. ExprFits frame.now.program.now.objects (shapes_of frame.now) (length slots.now) (expr_of e)) subs.now }
-    requires few { length subs.now ≤ 3 }
-    ensures { Lists (binding frame.now) line (exprs_of subs.now) slots.now (store_of words.now) result }
+// What was got; the kind of a fault is kept.
+#[inline(always)]
+fn noted<T>(got: Result<T, FaultKind>, kind: &mut FaultKind) -> Option<T>
+    ensures { Notes got result kind.new }
 {
-    let mut found = ArrayVec::new();
-    for e in subs {
-        let v = value(frame, words, slots, line, e)?;
-        found.push(v);
+    match got {
+        Ok(value) => Some(value),
+        Err(fault) => {
+            *kind = fault;
+            None
+        }
     }
-    Ok(found)
 }
 
 /// Puts a line to a fault.
@@ -105,12 +111,48 @@ pub fn at_line<T>(answer: Result<T, FaultKind>, line: u32) -> Result<T, Fault>
     }
 }
 
+// The number of an array element, from 0: all subscripts are evaluated in order, and then the
+// bounds are tested (ISO/IEC 1539:1991, section 6.2.2); none where one of these faults.
+#[cycle(evaluate)]
+fn number(
+    frame: &Frame,
+    words: &[i64],
+    slots: &[i64],
+    var: Var,
+    subs: &[Expr],
+    kind: &mut FaultKind,
+) -> Option<u32>
+    requires placed { IsPlaced frame.now }
+    requires room { length words.now ≡ frame.now.program.now.words }
+    requires element { IsElement frame.now (length slots.now) var (exprs_of subs.now) }
+    ensures number { GivesNumber (binding frame.now) (dims_of (binding frame.now) var) (exprs_of subs.now) slots.now (store_of words.now) result kind.new }
+    ensures within { IfSome result (λ n. n < size_of (dims_of (binding frame.now) var)) }
+{
+    let dims = frame.dims(var);
+    let mut folded = Folded {
+        number: 0,
+        stride: 1,
+        is_inside: true,
+    };
+    for (k, e) in subs.iter().enumerate() {
+        let sub = operand(frame, words, slots, e, kind)?;
+        folded = folded.with(dims[k], sub);
+    }
+    if folded.is_inside {
+        Some(folded.number)
+    } else {
+        *kind = FaultKind::Subscript;
+        None
+    }
+}
+
 /// The cell of a target (ISO/IEC 1539:1991, section 7.5.1): its subscripts are evaluated, and the
 /// bounds tested.
 ///
 /// # Errors
 ///
 /// The first fault, at the line.
+#[inline(always)]
 pub fn located(
     frame: &Frame,
     words: &[i64],
@@ -118,7 +160,7 @@ pub fn located(
     line: u32,
     target: &Target,
 ) -> Result<Cell, Fault>
-    requires sound { IsSound frame.now }
+    requires placed { IsPlaced frame.now }
     requires room { length words.now ≡ frame.now.program.now.words }
     requires fits { TargetFits frame.now.program.now.objects (shapes_of frame.now) (length slots.now) (target_of target.now) }
     ensures cell { Locates (binding frame.now) line (target_of target.now) slots.now (store_of words.now) result }
@@ -129,6 +171,9 @@ pub fn located(
     if subs.is_empty() {
         return Ok(scalar(frame, slots, var));
     }
-    let n = number(frame, words, slots, line, var, subs)?;
-    Ok(Cell::Word(frame.word(var, n)))
+    let mut kind = FaultKind::Overflow;
+    match number(frame, words, slots, var, subs, &mut kind) {
+        Some(n) => Ok(Cell::Word(frame.word(var, n))),
+        None => Err(Fault { kind, line }),
+    }
 }

@@ -2,16 +2,9 @@
 ghost use Rattle.std.specs.Prelude.{◌≡◌, ◌+◌, ◌<◌};
 ghost use Rattle.cdc_prog.specs.Data.{size_of, object_of, base_of, dims_of};
 ghost use Rattle.cdc_prog.specs.Resolved.{IsVar};
-ghost use Rattle.cdc_meaning.specs.Frames.{shapes_of, binding, IsSound};
+ghost use Rattle.cdc_meaning.specs.Frames.{shapes_of, binding, IsPlaced};
 
-use cdc_prog::{Dim, Dummy, FaultKind, Program, Var};
-
-/// A fault and the line of its statement.
-#[derive(Clone, Copy)]
-pub struct Fault {
-    pub kind: FaultKind,
-    pub line: u32,
-}
+use cdc_prog::{Dim, Dummy, Program, Var};
 
 /// A program, and what the dummies of the unit that is carried out stand for.
 #[derive(Clone, Copy)]
@@ -24,6 +17,7 @@ pub struct Frame<'a> {
 
 impl<'a> Frame<'a> {
     // The number of the object that a variable stands for.
+    #[inline]
     fn object(&self, var: Var) -> usize
         ensures { result ≡ object_of (binding self.now) var }
     {
@@ -35,6 +29,7 @@ impl<'a> Frame<'a> {
     }
 
     // The first word of a variable.
+    #[inline]
     fn base(&self, var: Var) -> u32
         ensures { result ≡ base_of (binding self.now) var }
     {
@@ -45,6 +40,7 @@ impl<'a> Frame<'a> {
     }
 
     /// The dimensions of a variable; none for a scalar.
+    #[inline]
     pub fn dims(&self, var: Var) -> &'a [Dim]
         ensures { result.now ≡ dims_of (binding self.now) var }
     {
@@ -62,8 +58,9 @@ impl<'a> Frame<'a> {
     }
 
     /// The word of element `n` of a variable that is no slot.
+    #[inline]
     pub fn word(&self, var: Var, n: u32) -> u32
-        requires sound { IsSound self.now }
+        requires placed { IsPlaced self.now }
         requires known { IsVar self.now.program.now.objects (shapes_of self.now) 0 var }
         requires inside { n < size_of (dims_of (binding self.now) var) }
         ensures value { result ≡ base_of (binding self.now) var + n }

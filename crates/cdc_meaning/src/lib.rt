@@ -4,8 +4,8 @@
 mod cell;
 mod exec;
 mod expr;
+mod folded;
 mod frame;
-mod operators;
 mod print;
 mod read;
 mod run;
@@ -13,4 +13,5 @@ mod steps;
 #[cfg(test)]
 mod tests;
 
-pub use run::{Plain, Ran, run_lines, run_plain};
+pub use cdc_prog::Plain;
+pub use run::{Ran, run_lines, run_plain};

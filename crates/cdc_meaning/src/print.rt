@@ -1,25 +1,19 @@
 // PRINT.
-ghost use Rattle.std.specs.Prelude.{◌≡◌, ◌∷◌, ℤ, List, false, true, length, map, OnOk, OnErr};
+ghost use Rattle.std.specs.Prelude.{◌≡◌, [], false, length, map};
 ghost use Rattle.std.specs.List.{All};
-ghost use Rattle.cdc_base.specs.Outside.{grown, GrewInPart};
-ghost use Rattle.cdc_base.specs.Causes.{HasCause};
-ghost use Rattle.cdc_prog.specs.Input.{Input};
-ghost use Rattle.cdc_prog.specs.Process.{Process, Say};
-ghost use Rattle.cdc_prog.specs.Lines.{opened};
-ghost use Rattle.cdc_prog.specs.Meaning.{bytes_of_piece};
-ghost use Rattle.cdc_prog.specs.Plain as plain;
+ghost use Rattle.cdc_base.specs.Gathered.{waiting};
+ghost use Rattle.cdc_prog.specs.Pieces.{IsThere};
+ghost use Rattle.cdc_prog.specs.Process.{Say};
 ghost use Rattle.cdc_prog.specs.Resolved.{ItemFits};
-ghost use Rattle.cdc_prog.specs.Statements.{gap, items};
+ghost use Rattle.cdc_prog.specs.Statements.{gap};
 ghost use Rattle.cdc_prog.specs.Translation.{item_of};
-ghost use Rattle.cdc_meaning.specs.Frames.{shapes_of, binding, IsSound};
-ghost use Rattle.cdc_meaning.specs.Runs.{around};
-ghost use Rattle.cdc_meaning.specs.Carried.{spoken, IsThere, state, Comes};
+ghost use Rattle.cdc_meaning.specs.Frames.{shapes_of, IsPlaced};
+ghost use Rattle.cdc_meaning.specs.Carried.{output_of, Says, ShowsItem, ShowsItems};
 
 use crate::expr::value;
-use crate::frame::{Fault, Frame};
-use cdc_base::{List, Sink, SinkFault, put_all};
-use cdc_num::decimal;
-use cdc_prog::Item;
+use crate::frame::Frame;
+use cdc_base::{Gathered, List, Sink, SinkFault};
+use cdc_prog::{Fault, Item, Piece, opens, put_piece};
 
 /// Why a program stops.
 #[derive(Clone, Copy)]
@@ -52,77 +46,53 @@ impl From<SinkFault> for Stop {
     }
 }
 
-/// What is printed at once.
-#[derive(Clone, Copy)]
-pub enum Piece {
-    Number(i64),
-    Space,
-    /// A text of the program, by its number.
-    Text(u32),
-    LineEnd,
+/// What a program printed and the sink was not handed yet, and whether the line that was printed last is open.
+#[derive(Drop)]
+pub struct Page {
+    pub gathered: Gathered,
+    /// Bytes stand behind the last line end that was printed.
+    pub is_open: bool,
 }
 
-// Writes the bytes of a piece.
-fn put<K: Sink>(out: &mut K, texts: &[List<u8>], piece: Piece) -> Result<(), SinkFault>
-    requires { IsThere (length texts.now) piece }
-    ensures ok { OnOk result (K.taken out.new ≡ grown (K.taken out.old) (bytes_of_piece texts.now (spoken piece))) }
-    ensures failed { OnErr result (GrewInPart (K.taken out.old) (K.taken out.new) (bytes_of_piece texts.now (spoken piece))) }
-    ensures cause { HasCause (K.faults out.old) (K.faults out.new) result }
-{
-    match piece {
-        Piece::Number(value) => put_all(out, decimal(value).as_bytes()),
-        Piece::Space => put_all(out, b" "),
-        Piece::Text(number) => put_all(out, texts[number as usize].as_slice()),
-        Piece::LineEnd => put_all(out, b"\n"),
-    }
-}
-
-// Whether a line is open behind a piece.
-fn opens(texts: &[List<u8>], piece: Piece, before: bool) -> bool
-    requires { IsThere (length texts.now) piece }
-    ensures { result ≡ opened before (bytes_of_piece texts.now (spoken piece)) }
-{
-    match piece {
-        Piece::Number(_) | Piece::Space => true,
-        Piece::Text(number) => match texts[number as usize].as_slice().last() {
-            Some(byte) => *byte != b'\n',
-            None => before,
-        },
-        Piece::LineEnd => false,
+impl Page {
+    /// Nothing was printed.
+    pub fn new() -> Page
+        ensures gathered { waiting result.gathered ≡ [] }
+        ensures shut { result.is_open ≡ false }
+    {
+        Page {
+            gathered: Gathered::new(),
+            is_open: false,
+        }
     }
 }
 
 // Writes a piece, and keeps whether a line is open behind it.
-fn say<K: Sink>(
-    out: &mut K,
-    is_open: &mut bool,
-    texts: &[List<u8>],
-    piece: Piece,
-) -> Result<(), Stop>
+fn say<K: Sink>(out: &mut K, page: &mut Page, texts: &[List<u8>], piece: Piece) -> Result<(), Stop>
     requires { IsThere (length texts.now) piece }
-    ensures { (words slots : List ℤ) (left : Input) (rest : Process) → Comes texts.now (Say (spoken piece) rest) (state words slots left (K.taken out.old) is_open.old (K.faults out.old)) result rest (state words slots left (K.taken out.new) is_open.new (K.faults out.new)) }
+    ensures { Says texts.now (Say piece) (output_of (K.taken out.old) page.old (K.faults out.old)) result (output_of (K.taken out.new) page.new (K.faults out.new)) }
 {
-    put(out, texts, piece)?;
-    *is_open = opens(texts, piece, *is_open);
+    put_piece(out, &mut page.gathered, texts, piece)?;
+    page.is_open = opens(texts, piece, page.is_open);
     Ok(())
 }
 
 // Writes a piece, behind a space where it is not the first of its line.
 fn write<K: Sink>(
     out: &mut K,
-    is_open: &mut bool,
+    page: &mut Page,
     texts: &[List<u8>],
     first: bool,
     piece: Piece,
 ) -> Result<(), Stop>
     requires { IsThere (length texts.now) piece }
-    ensures { (words slots : List ℤ) (left : Input) (rest : Process) → Comes texts.now (gap first (Say (spoken piece) rest)) (state words slots left (K.taken out.old) is_open.old (K.faults out.old)) result rest (state words slots left (K.taken out.new) is_open.new (K.faults out.new)) }
+    ensures { Says texts.now (λ rest. gap first (Say piece rest)) (output_of (K.taken out.old) page.old (K.faults out.old)) result (output_of (K.taken out.new) page.new (K.faults out.new)) }
 {
     if first {
-        return say(out, is_open, texts, piece);
+        return say(out, page, texts, piece);
     }
-    say(out, is_open, texts, Piece::Space)?;
-    say(out, is_open, texts, piece)
+    say(out, page, texts, Piece::Space)?;
+    say(out, page, texts, piece)
 }
 
 // Evaluates an item, and writes it behind the space.
@@ -131,22 +101,22 @@ fn show<K: Sink>(
     words: &[i64],
     slots: &[i64],
     out: &mut K,
-    is_open: &mut bool,
+    page: &mut Page,
     line: u32,
     first: bool,
     item: &Item,
 ) -> Result<(), Stop>
-    requires sound { IsSound frame.now }
+    requires placed { IsPlaced frame.now }
     requires room { length words.now ≡ frame.now.program.now.words }
     requires fits { ItemFits frame.now.program.now.objects (shapes_of frame.now) (length slots.now) (length frame.now.program.now.texts) (item_of item.now) }
-    ensures { (left : Input) (more : List plain.Item) (rest : Process) → Comes frame.now.program.now.texts (items (binding frame.now) line first (item_of item.now ∷ more) (around slots.now left) rest) (state words.now slots.now left (K.taken out.old) is_open.old (K.faults out.old)) result (items (binding frame.now) line false more (around slots.now left) rest) (state words.now slots.now left (K.taken out.new) is_open.new (K.faults out.new)) }
+    ensures { ShowsItem frame.now words.now slots.now line first (item_of item.now) (output_of (K.taken out.old) page.old (K.faults out.old)) result (output_of (K.taken out.new) page.new (K.faults out.new)) }
 {
     let texts = frame.program.texts.as_slice();
     match item {
-        Item::Text(number) => write(out, is_open, texts, first, Piece::Text(*number)),
+        Item::Text(number) => write(out, page, texts, first, Piece::Text(*number)),
         Item::Value(e) => {
             let v = value(frame, words, slots, line, e)?;
-            write(out, is_open, texts, first, Piece::Number(v))
+            write(out, page, texts, first, Piece::Number(v))
         }
     }
 }
@@ -162,19 +132,19 @@ pub fn print<K: Sink>(
     words: &[i64],
     slots: &[i64],
     out: &mut K,
-    is_open: &mut bool,
+    page: &mut Page,
     line: u32,
     shown: &[Item],
 ) -> Result<(), Stop>
-    requires sound { IsSound frame.now }
+    requires placed { IsPlaced frame.now }
     requires room { length words.now ≡ frame.now.program.now.words }
     requires fits { All (λ i. ItemFits frame.now.program.now.objects (shapes_of frame.now) (length slots.now) (length frame.now.program.now.texts) (item_of i)) shown.now }
-    ensures { (left : Input) (rest : Process) → Comes frame.now.program.now.texts (items (binding frame.now) line true (map item_of shown.now) (around slots.now left) rest) (state words.now slots.now left (K.taken out.old) is_open.old (K.faults out.old)) result rest (state words.now slots.now left (K.taken out.new) is_open.new (K.faults out.new)) }
+    ensures { ShowsItems frame.now words.now slots.now line (map item_of shown.now) (output_of (K.taken out.old) page.old (K.faults out.old)) result (output_of (K.taken out.new) page.new (K.faults out.new)) }
 {
     let mut first = true;
     for item in shown {
-        show(frame, words, slots, out, is_open, line, first, item)?;
+        show(frame, words, slots, out, page, line, first, item)?;
         first = false;
     }
-    say(out, is_open, frame.program.texts.as_slice(), Piece::LineEnd)
+    say(out, page, frame.program.texts.as_slice(), Piece::LineEnd)
 }

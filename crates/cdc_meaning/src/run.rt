@@ -4,28 +4,17 @@ ghost use Rattle.cdc_prog.specs.Translation.{program_of, stmts_of};
 ghost use Rattle.cdc_prog.specs.Units.{body_of};
 ghost use Rattle.cdc_prog.specs.Resolved.{IsResolved, IsSerial};
 ghost use Rattle.cdc_prog.specs.Meaning.{meaning};
-ghost use Rattle.cdc_meaning.specs.Answers.{IsRun, TellsLine, HasPlainCause, answer_of};
+ghost use Rattle.cdc_prog.specs.Answers.{IsRun, HasPlainCause};
+ghost use Rattle.cdc_base.specs.Gathered.{waiting};
+ghost use Rattle.cdc_meaning.specs.Answers.{TellsLine, IsHandedOn, answer_of};
 
 use crate::exec::{Streams, exec_all};
 use crate::frame::Frame;
-use crate::print::Stop;
-use crate::read::Unread;
-use cdc_base::{List, Sink};
+use crate::print::{Page, Stop};
+use cdc_base::{Gathered, List, Sink};
 use cdc_input::InputRecords;
-use cdc_prog::{FaultKind, Program, Stmt};
+use cdc_prog::{Plain, Program, Stmt, Unread};
 use std::alloc::Global;
-
-/// How the run of a program ends.
-#[derive(Clone, Copy, Debug, PartialEq, Eq)]
-pub enum Plain {
-    Done,
-    /// A fault, and the line of its statement.
-    Fault(FaultKind, u32),
-    /// The sink failed.
-    SinkFault,
-    /// Memory ran out before anything was written.
-    Memory,
-}
 
 /// How the run of a program ended, and whether the line that it printed last is open.
 #[derive(Clone, Copy, Debug, PartialEq, Eq)]
@@ -91,7 +80,7 @@ fn run_on<K: Sink>(program: &Program, records: &[List<i64>], words: &mut [i64], 
     };
     let mut streams = Streams {
         unread: Unread::new(records),
-        is_open: false,
+        page: Page::new(),
     };
     let end = exec_all(
         &frame,
@@ -101,15 +90,28 @@ fn run_on<K: Sink>(program: &Program, records: &[List<i64>], words: &mut [i64], 
         out,
         main_body(program),
     );
+    let end = hand_on(end, &mut streams.page.gathered, out);
     Ran {
         answer: answer(end),
-        is_open: streams.is_open,
+        is_open: streams.page.is_open,
     }
+}
+
+// Hands what still waits to the sink, where that has not failed before.
+fn hand_on<K: Sink>(end: Result<(), Stop>, gathered: &mut Gathered, out: &mut K) -> Result<(), Stop>
+    ensures { IsHandedOn end (waiting gathered.old) (K.taken out.old) (K.faults out.old) result (K.taken out.new) (K.faults out.new) }
+{
+    if let Err(Stop::Sink) = end {
+        return end;
+    }
+    gathered.flush(out)?;
+    end
 }
 
 // The statements of the main unit.
 fn main_body(program: &Program) -> &[Stmt]
-    requires { program.now.main < length program.now.units }
+    requires there { program.now.main < length program.now.units }
+    requires serial { IsSerial (program_of program.now) }
     ensures { stmts_of result.now ≡ body_of (program_of program.now) program.now.main }
 {
     program.units.as_slice()[program.main as usize]

@@ -1,18 +1,17 @@
 // What statements do that print nothing and hold no statements.
 ghost use Rattle.std.specs.Prelude.{◌≡◌, length, IfOk};
-ghost use Rattle.cdc_prog.specs.Input.{Input};
 ghost use Rattle.cdc_prog.specs.Resolved.{ExprFits, TargetFits, ControlFits, IsScalar};
 ghost use Rattle.cdc_prog.specs.Statements.{assign};
 ghost use Rattle.cdc_prog.specs.Translation.{expr_of, target_of, control_of};
-ghost use Rattle.cdc_meaning.specs.Frames.{shapes_of, binding, IsSound};
-ghost use Rattle.cdc_meaning.specs.Runs.{store_of, around, Steps};
+ghost use Rattle.cdc_meaning.specs.Frames.{shapes_of, binding, IsPlaced};
+ghost use Rattle.cdc_prog.specs.Held.{store_of};
+ghost use Rattle.cdc_meaning.specs.Evaluates.{StepsAlone};
 ghost use Rattle.cdc_meaning.specs.Loops.{Begins, raised_by};
 
 use crate::cell::{fetch, keep, scalar};
 use crate::expr::{at_line, located, value};
-use crate::frame::{Fault, Frame};
-use crate::operators::{binary, turns};
-use cdc_prog::{BinOp, Control, Expr, Ref, Target};
+use crate::frame::Frame;
+use cdc_prog::{BinOp, Control, Expr, Fault, Ref, Target, binary, turns};
 
 /// An assignment: the target's subscripts, the test of the bounds, the value, and the store (ISO/IEC
 /// 1539:1991, section 7.5.1).
@@ -28,11 +27,11 @@ pub fn assign(
     target: &Target,
     e: &Expr,
 ) -> Result<(), Fault>
-    requires sound { IsSound frame.now }
+    requires placed { IsPlaced frame.now }
     requires room { length words.old ≡ frame.now.program.now.words }
     requires target { TargetFits frame.now.program.now.objects (shapes_of frame.now) (length slots.old) (target_of target.now) }
     requires value { ExprFits frame.now.program.now.objects (shapes_of frame.now) (length slots.old) (expr_of e.now) }
-    ensures { (left : Input) → Steps (assign (binding frame.now) line (target_of target.now) (expr_of e.now)) (around slots.old left) (store_of words.old) result (around slots.new left) (store_of words.new) }
+    ensures { StepsAlone (assign (binding frame.now) line (target_of target.now) (expr_of e.now)) slots.old (store_of words.old) result slots.new (store_of words.new) }
 {
     let cell = located(frame, words, slots, line, target)?;
     let v = value(frame, words, slots, line, e)?;
@@ -65,7 +64,7 @@ pub fn begin(
     again: Ref,
     bump: Ref,
 ) -> Result<Turns, Fault>
-    requires sound { IsSound frame.now }
+    requires placed { IsPlaced frame.now }
     requires room { length words.old ≡ frame.now.program.now.words }
     requires fits { ControlFits frame.now.program.now.objects (shapes_of frame.now) (length slots.old) (control_of control.now) }
     requires first { IsScalar frame.now.program.now.objects (shapes_of frame.now) (length slots.old) first.var }
@@ -93,11 +92,11 @@ pub fn begin(
 ///
 /// `Overflow` at the line of the loop, where the result is out of range.
 pub fn raise(frame: &Frame, words: &mut [i64], slots: &mut [i64], turns: Turns) -> Result<(), Fault>
-    requires sound { IsSound frame.now }
+    requires placed { IsPlaced frame.now }
     requires room { length words.old ≡ frame.now.program.now.words }
     requires again { IsScalar frame.now.program.now.objects (shapes_of frame.now) (length slots.old) turns.again.var }
     requires bump { IsScalar frame.now.program.now.objects (shapes_of frame.now) (length slots.old) turns.bump.var }
-    ensures { (left : Input) → Steps (raised_by (binding frame.now) turns) (around slots.old left) (store_of words.old) result (around slots.new left) (store_of words.new) }
+    ensures { StepsAlone (raised_by (binding frame.now) turns) slots.old (store_of words.old) result slots.new (store_of words.new) }
 {
     let x = fetch(words, slots, scalar(frame, slots, turns.again.var));
     let y = at_line(binary(BinOp::Add, x, turns.by), turns.line)?;

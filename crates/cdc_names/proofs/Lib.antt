@@ -1,11 +1,5 @@
-pub mod Kept
 pub mod Lookup
 pub mod Nexts
 pub mod Firsts
-pub mod AlikeLists
-pub mod AlikeTrees
-pub mod AlikeForms
-pub mod AlikeNodes
-pub mod AlikeUses
-pub mod AlikeScopes
-pub mod AlikeRefusals
+pub mod Others
+pub mod Least

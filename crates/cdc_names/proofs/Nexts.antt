@@ -5,7 +5,7 @@ use Rattle.std.specs.Prelude.{if◌then◌else◌}
 use Rattle.std.specs.Str.{bytes_eq}
 use Rattle.std.proofs.lemmas.Slice.Eq.{bytes_eq-Decides}
 use Rattle.cdc_base.specs.declared.place.Place.{Place}
-use Rattle.cdc_parse.specs.declared.tree.Named.{Named}
+use Rattle.cdc_tree.specs.declared.tree.Named.{Named}
 use Rattle.cdc_names.specs.Duplicates.{place_in, beside, twice}
 use Rattle.cdc_names.specs.Table.{found, placed}
 

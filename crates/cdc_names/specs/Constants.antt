@@ -7,10 +7,9 @@ use Rattle.cdc_prog.specs.declared.expr.UnOp.TheVariants as un
 use Rattle.cdc_prog.specs.declared.expr.BinOp.{BinOp}
 use Rattle.cdc_prog.specs.declared.expr.BinOp.TheVariants as bin
 use Rattle.cdc_prog.specs.Value.{unary, binary}
-use Rattle.cdc_parse.specs.declared.tree.Intrinsic.{Intrinsic}
-use Rattle.cdc_parse.specs.declared.tree.Intrinsic.TheVariants.{Abs, Mod, Min, Max}
-use Rattle.cdc_parse.specs.declared.tree.Tree.{Tree, fold-Tree}
-use Rattle.cdc_parse.specs.declared.tree.Tree.TheOpen.{Tree-F}
+use Rattle.cdc_tree.specs.declared.tree.Intrinsic.{Intrinsic}
+use Rattle.cdc_tree.specs.declared.tree.Intrinsic.TheVariants.{Abs, Mod, Min, Max}
+use Rattle.cdc_tree.specs.Plain.{Plain, PNumber, PName, PApply, PParen, PPlus, PUn, PBin, PKnown, Plains, PEnd, PMore}
 use Rattle.cdc_names.specs.Table.{found}
 
 -- the value of an operation that does not fault
@@ -44,29 +43,28 @@ abbrev pub known : Intrinsic → List (Option ℤ) → Option ℤ
 known which [] = None
 known which (a ∷ rest) = chained which (begun which a) rest
 
-abbrev pub constant_node : List (List ℕ × ℤ) → Tree-F (Option ℤ) → Option ℤ
-constant_node values (Tree-F.Number place n) = Some n
-constant_node values (Tree-F.Name n) = found n.name values
-constant_node values (Tree-F.Apply n subs) = None
-constant_node values (Tree-F.Paren place a) = a.value
-constant_node values (Tree-F.Plus place a) = a.value
-constant_node values (Tree-F.Un place op a) = single op a.value
-constant_node values (Tree-F.Bin op a b) = both op a.value b.value
-constant_node values (Tree-F.Known place which args) = known which args
+abbrev mutual
+  pub constant : List (List ℕ × ℤ) → Plain → Option ℤ
+  constant values (PNumber place n) = Some n
+  constant values (PName n) = found n.name values
+  constant values (PApply n subs) = None
+  constant values (PParen place a) = constant values a
+  constant values (PPlus place a) = constant values a
+  constant values (PUn place op a) = single op (constant values a)
+  constant values (PBin op a b) = both op (constant values a) (constant values b)
+  constant values (PKnown place which args) = known which (constants values args)
 
-abbrev pub constant : List (List ℕ × ℤ) → Tree → Option ℤ
-constant values = fold-Tree (Option ℤ) (constant_node values)
-
-abbrev pub place_node : Tree-F Place → Place
-place_node (Tree-F.Number place n) = place
-place_node (Tree-F.Name n) = n.place
-place_node (Tree-F.Apply n subs) = n.place
-place_node (Tree-F.Paren place a) = place
-place_node (Tree-F.Plus place a) = place
-place_node (Tree-F.Un place op a) = place
-place_node (Tree-F.Bin op a b) = a.value
-place_node (Tree-F.Known place which args) = place
+  pub constants : List (List ℕ × ℤ) → Plains → List (Option ℤ)
+  constants values PEnd = []
+  constants values (PMore a more) = constant values a ∷ constants values more
 
 -- the place of the first token
-abbrev pub place_of : Tree → Place
-place_of = fold-Tree Place place_node
+abbrev pub place_of : Plain → Place
+place_of (PNumber place n) = place
+place_of (PName n) = n.place
+place_of (PApply n subs) = n.place
+place_of (PParen place a) = place
+place_of (PPlus place a) = place
+place_of (PUn place op a) = place
+place_of (PBin op a b) = place_of a
+place_of (PKnown place which args) = place

@@ -11,3 +11,4 @@ pub mod Duplicates
 pub mod NotConstant
 pub mod Shapes
 pub mod DoVariables
+pub mod Firsts

@@ -1,13 +1,13 @@
 -- What the names of a unit are declared as, and the values of its PARAMETERs.
-use Rattle.std.specs.Prelude.{ℕ, zero, suc, ℤ, List, [], ◌∷◌, Option, Some, None, length, is_some, is_none, if◌then◌else◌}
-use Rattle.std.specs.Prelude.{option_and_then}
-use Rattle.cdc_parse.specs.declared.unit.UnitText.{UnitText}
+use Rattle.std.specs.Prelude.{ℕ, zero, suc, ℤ, Bool, List, [], ◌∷◌, Option, Some, None, map, length, is_some, is_none, option_and_then, if◌then◌else◌}
+use Rattle.cdc_tree.specs.Units.{PUnit}
 use Rattle.cdc_names.specs.declared.scope.Sort.{Sort}
 use Rattle.cdc_names.specs.declared.scope.Sort.TheVariants.{Scalar, Array, Parameter}
 use Rattle.cdc_names.specs.declared.scope.Scope.{Scope}
 use Rattle.cdc_names.specs.Constants.{constant}
-use Rattle.cdc_names.specs.Declarations.{Declares, declared_in}
+use Rattle.cdc_names.specs.Declarations.{Declares, declared_in, plain_declaration}
 use Rattle.cdc_names.specs.Table.{added}
+use Rattle.cdc_names.specs.Used.{Used}
 use Rattle.cdc_names.specs.Uses.{unit_uses}
 
 abbrev pub sort_by_dimensions : ℕ → Sort
@@ -38,7 +38,15 @@ abbrev pub values_from : List (List ℕ × ℤ) → List Declares → List (List
 values_from values [] = values
 values_from values (d ∷ ds) = values_from (known_after values d) ds
 
-abbrev pub scope_of : UnitText → Scope
+-- what a unit declares, and its uses of names
+pub record PScope : Type 0 where
+  pub implicit : Bool
+  pub declarations : List Declares
+  pub sorts : List (List ℕ × Sort)
+  pub values : List (List ℕ × ℤ)
+  pub uses : List Used
+
+abbrev pub scope_of : PUnit → PScope
 scope_of u = record {
   implicit = is_none u.none;
   declarations = declared_in u.declarations;
@@ -46,3 +54,7 @@ scope_of u = record {
   values = values_from [] (declared_in u.declarations);
   uses = unit_uses u;
 }
+
+-- a scope without pointers
+abbrev pub plain_scope : Scope → PScope
+plain_scope s = record { implicit = s.implicit; declarations = map plain_declaration s.declarations; sorts = s.sorts; values = s.values; uses = s.uses }

@@ -1,7 +1,7 @@
 -- A use of a name.
 use Rattle.std.specs.Prelude.{ℕ, List}
 use Rattle.cdc_base.specs.declared.place.Place.{Place}
-use Rattle.cdc_parse.specs.declared.tree.Named.{Named}
+use Rattle.cdc_tree.specs.declared.tree.Named.{Named}
 use Rattle.cdc_names.specs.declared.name_use.Role.{Role}
 
 pub record Used : Type 0 where

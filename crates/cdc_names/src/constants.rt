@@ -1,17 +1,18 @@
 ghost use Rattle.std.specs.Prelude.{◌≡◌, map};
-ghost use Rattle.cdc_names.specs.Constants.{begun, constant, further, known, place_of};
+ghost use Rattle.cdc_tree.specs.Plain.{plain, plains};
+ghost use Rattle.cdc_names.specs.Constants.{begun, constant, constants, further, known, place_of};
 
 use crate::arithmetic::{both, single};
 use crate::table::Table;
 use cdc_base::Place;
-use cdc_parse::{Intrinsic, Tree};
 use cdc_prog::{BinOp, UnOp};
+use cdc_tree::{Intrinsic, Tree};
 
 /// The value of a constant expression over the PARAMETERs that are known, where it has one
 /// (ISO/IEC 1539:1991, section 7.1.6.1).
 #[cycle(constant)]
 pub fn constant(values: &Table<i64>, t: &Tree) -> Option<i64>
-    ensures { result ≡ constant values.now t.now }
+    ensures { result ≡ constant values.now (plain t.now) }
 {
     match t {
         Tree::Number(_, n) => Some(*n),
@@ -27,7 +28,7 @@ pub fn constant(values: &Table<i64>, t: &Tree) -> Option<i64>
 
 #[cycle(constant)]
 fn known(values: &Table<i64>, which: Intrinsic, args: &[Tree]) -> Option<i64>
-    ensures { result ≡ known which (map (constant values.now) args.now) }
+    ensures { result ≡ known which (constants values.now (plains (map plain args.now))) }
 {
     match args {
         [] => None,
@@ -63,7 +64,7 @@ fn further(which: Intrinsic, a: Option<i64>, b: Option<i64>) -> Option<i64>
 
 /// The place of a tree's first token.
 pub fn place_of(t: &Tree) -> Place
-    ensures { result ≡ place_of t.now }
+    ensures { result ≡ place_of (plain t.now) }
 {
     match t {
         Tree::Number(place, _) => *place,

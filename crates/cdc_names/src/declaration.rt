@@ -1,7 +1,7 @@
 ghost use Rattle.std.specs.Prelude.{◌≡◌};
 
 use cdc_base::Place;
-use cdc_parse::{Bound, Named, Tree};
+use cdc_tree::{Bound, Named, Tree};
 use std::marker::Model;
 
 /// A name where it stands.
@@ -11,7 +11,7 @@ pub struct Label<'a> {
 }
 
 impl<'a> Model for Label<'a> {
-    ghost use Rattle.cdc_parse.specs.declared.tree.Named.{Named};
+    ghost use Rattle.cdc_tree.specs.declared.tree.Named.{Named};
 
     ghost Value = { Named };
 
@@ -38,17 +38,4 @@ pub struct Declaration<'a> {
     pub named: &'a Named,
     pub bounds: &'a [Bound],
     pub value: Option<&'a Tree>,
-}
-
-impl<'a> Model for Declaration<'a> {
-    ghost use Rattle.std.specs.Option.{option_copied};
-    ghost use Rattle.std.specs.Coded.{codes};
-    ghost use Rattle.cdc_parse.specs.contracts.tree.Tree as tree;
-    ghost use Rattle.cdc_names.specs.Declarations.{Declares, declares};
-
-    ghost Value = { Declares };
-
-    ghost coded = { Prim.hlevel (codes, tree.the_row.coded) };
-
-    ghost view = { λ d. declares d.named.now d.bounds.now (option_copied d.value) };
 }

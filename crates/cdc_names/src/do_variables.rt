@@ -1,6 +1,7 @@
-ghost use Rattle.std.specs.Prelude.{◌≡◌, [], ◌∷◌, ◌++◌, ◌-◌, take, length, false, OnOk, IfOk};
+ghost use Rattle.std.specs.Prelude.{◌≡◌, [], ◌∷◌, ◌++◌, ◌-◌, map, take, length, None, OnOk, IfOk};
 ghost use Rattle.cdc_names.specs.Places.{first_of};
-ghost use Rattle.cdc_names.specs.DoVariables.{is_counted, opened_after, changes, spoiled, spoiled_from, do_variable_in};
+ghost use Rattle.cdc_names.specs.DoVariables.{opened_as, opened_after, changes, is_counted, spoiled, spoiled_from, do_variable_in};
+ghost use Rattle.cdc_names.specs.Scopes.{plain_scope};
 
 use crate::name_use::{NameUse, Role};
 use crate::place::{place_if, sooner};
@@ -9,18 +10,19 @@ use cdc_base::Place;
 use std::alloc::{AllocError, Global};
 use std::marker::Model;
 
-/// The names of the open loops, the innermost last, each with whether it is the variable of a DO;
-/// else it is a slot of a DOALL.
+/// The names of the open loops, the innermost last, each with what its loop uses it as: the
+/// variable of a DO, or the index or a private name of a DOALL.
 #[derive(Drop)]
 struct OpenLoops<'a> {
-    names: Vec<(&'a [u8], bool)>,
+    names: Vec<(&'a [u8], Role)>,
 }
 
 impl<'a> Model for OpenLoops<'a> {
-    ghost use Rattle.std.specs.Prelude.{ℕ, Bool, List};
+    ghost use Rattle.std.specs.Prelude.{ℕ, List};
+    ghost use Rattle.cdc_names.specs.declared.name_use.Role.{Role};
     ghost use Rattle.cdc_names.specs.Entries.{named};
 
-    ghost Value = { List (List ℕ × Bool) };
+    ghost Value = { List (List ℕ × Role) };
 
     ghost view = { λ o. named o.names.items };
 }
@@ -34,10 +36,10 @@ impl<'a> OpenLoops<'a> {
         }
     }
 
-    fn open(&mut self, name: &'a [u8], counted: bool) -> Result<(), AllocError>
-        ensures { OnOk result (self.new ≡ self.old ++ (name.now, counted) ∷ []) }
+    fn open(&mut self, name: &'a [u8], role: Role) -> Result<(), AllocError>
+        ensures { OnOk result (self.new ≡ self.old ++ (name.now, role) ∷ []) }
     {
-        self.names.push((name, counted))?;
+        self.names.push((name, role))?;
         Ok(())
     }
 
@@ -47,25 +49,25 @@ impl<'a> OpenLoops<'a> {
         self.names.pop();
     }
 
-    fn is_counted(&self, name: &[u8]) -> bool
-        ensures { result ≡ is_counted false name.now self.now }
+    fn opened_as(&self, name: &[u8]) -> Option<Role>
+        ensures { result ≡ opened_as None name.now self.now }
     {
-        let mut counted = false;
+        let mut role = None;
         for o in self.names.as_slice() {
             if name == o.0 {
-                counted = o.1;
+                role = Some(o.1);
             }
         }
-        counted
+        role
     }
 
     fn step(&mut self, role: Role, name: &'a [u8]) -> Result<(), AllocError>
         ensures { OnOk result (self.new ≡ opened_after self.old role name.now) }
     {
         match role {
-            Role::Counted => self.open(name, true),
-            Role::Index => self.open(name, false),
-            Role::Private => self.open(name, false),
+            Role::Counted => self.open(name, role),
+            Role::Index => self.open(name, role),
+            Role::Private => self.open(name, role),
             Role::Closed => {
                 self.close();
                 Ok(())
@@ -86,10 +88,19 @@ fn changes(role: Role) -> bool
     }
 }
 
+fn is_counted(role: Option<Role>) -> bool
+    ensures { result ≡ is_counted role }
+{
+    match role {
+        Some(Role::Counted) => true,
+        _ => false,
+    }
+}
+
 fn spoiled(loops: &OpenLoops, u: &NameUse) -> Option<Place>
     ensures { result ≡ spoiled loops.now u.now }
 {
-    let wrong = changes(u.role) && loops.is_counted(u.name);
+    let wrong = changes(u.role) && is_counted(loops.opened_as(u.name));
     place_if(wrong, u.place)
 }
 
@@ -108,7 +119,7 @@ fn spoiled_in<'a>(alloc: Global, uses: &[NameUse<'a>]) -> Result<Option<Place>, 
 /// The first place inside a DO where its variable is assigned, read into or made the variable of
 /// an inner DO (ISO/IEC 1539:1991, section 8.1.4.4.2).
 pub fn first_do_variable(alloc: Global, scopes: &[Scope]) -> Result<Option<Place>, AllocError>
-    ensures { IfOk result (λ r. r ≡ first_of do_variable_in scopes.now) }
+    ensures { IfOk result (λ r. r ≡ first_of do_variable_in (map plain_scope scopes.now)) }
 {
     let mut best = None;
     for scope in scopes {

@@ -1,15 +1,23 @@
-ghost use Rattle.std.specs.Prelude.{◌≡◌, IfOk, OnOk};
-ghost use Rattle.cdc_names.specs.Duplicates.{beside, twice, sooner_pair, first_pair, duplicate_in};
+ghost use Rattle.std.specs.Prelude.{◌≡◌, map, IfOk, OnOk};
+ghost use Rattle.cdc_tree.specs.Units.{unit};
+ghost use Rattle.cdc_names.specs.Duplicates.{beside, twice, before_pair, sooner_pair, first_pair, duplicate_in};
 
 use crate::declaration::Label;
 use crate::name_lists::name_lists;
 use crate::place::is_before;
 use crate::table::Table;
 use cdc_base::{List, Place};
-use cdc_parse::UnitText;
+use cdc_tree::UnitText;
 use std::alloc::{AllocError, Global};
 
-/// The pair that stands first, by its first place and then by its second.
+/// Whether a pair stands before another, by its first place and then by its second.
+fn is_before_pair(p: (Place, Place), q: (Place, Place)) -> bool
+    ensures { result ≡ before_pair p q }
+{
+    is_before(p.0, q.0) || (!is_before(q.0, p.0) && is_before(p.1, q.1))
+}
+
+/// The pair that stands first.
 fn sooner_pair(a: Option<(Place, Place)>, b: Option<(Place, Place)>) -> Option<(Place, Place)>
     ensures { result ≡ sooner_pair a b }
 {
@@ -17,7 +25,7 @@ fn sooner_pair(a: Option<(Place, Place)>, b: Option<(Place, Place)>) -> Option<(
         (None, b) => b,
         (Some(p), None) => Some(p),
         (Some(p), Some(q)) => {
-            if is_before(q.0, p.0) || (!is_before(p.0, q.0) && is_before(q.1, p.1)) {
+            if is_before_pair(q, p) {
                 return Some(q);
             }
             Some(p)
@@ -58,7 +66,7 @@ pub fn first_duplicate(
     alloc: Global,
     units: &[UnitText],
 ) -> Result<Option<(Place, Place)>, AllocError>
-    ensures { IfOk result (λ r. r ≡ duplicate_in units.now) }
+    ensures { IfOk result (λ r. r ≡ duplicate_in (map unit units.now)) }
 {
     let lists = name_lists(alloc, units)?;
     first_pair(alloc, lists.as_slice())

@@ -1,12 +1,13 @@
 // The lists in which no name may stand twice.
 ghost use Rattle.std.specs.Prelude.{◌≡◌, ◌++◌, ◌∷◌, [], map, IfOk, OnOk};
-ghost use Rattle.cdc_names.specs.Declarations.{declared_in};
-ghost use Rattle.cdc_names.specs.Duplicates.{slot_names, slot_lists, node_lists, nodes_lists, branch_lists, branches_lists, dummy_names, declared_names, unit_lists, unit_name, head_names, name_lists};
+ghost use Rattle.cdc_tree.specs.Forms.{form};
+ghost use Rattle.cdc_tree.specs.Units.{node, body, branch, branches_of, unit};
+ghost use Rattle.cdc_names.specs.Duplicates.{slot_names, slot_lists, node_lists, body_lists, branches_lists, dummy_names, declared_names, unit_lists, unit_name, head_names, name_lists};
 
 use crate::declaration::Label;
 use crate::declared::{add, declarations};
 use cdc_base::List;
-use cdc_parse::{Branch, Form, Named, Node, UnitText};
+use cdc_tree::{Branch, Form, Named, Node, UnitText};
 use std::alloc::{AllocError, Global};
 
 fn label<'a>(named: &'a Named) -> Label<'a>
@@ -29,7 +30,7 @@ fn slots<'a>(
     out: &mut List<List<Label<'a>>>,
     head: &'a Form,
 ) -> Result<(), AllocError>
-    ensures { OnOk result (out.new ≡ out.old ++ slot_names head.now) }
+    ensures { OnOk result (out.new ≡ out.old ++ slot_names (form head.now)) }
 {
     match head {
         Form::Doall(l, privates) => {
@@ -44,7 +45,7 @@ fn slots<'a>(
 
 #[cycle(lists)]
 fn node<'a>(out: &mut List<List<Label<'a>>>, alloc: Global, n: &'a Node) -> Result<(), AllocError>
-    ensures { OnOk result (out.new ≡ out.old ++ node_lists n.now) }
+    ensures { OnOk result (out.new ≡ out.old ++ node_lists (node n.now)) }
 {
     match n {
         Node::Plain(_) => Ok(()),
@@ -68,7 +69,7 @@ fn nodes<'a>(
     alloc: Global,
     ns: &'a [Node],
 ) -> Result<(), AllocError>
-    ensures { OnOk result (out.new ≡ out.old ++ nodes_lists ns.now) }
+    ensures { OnOk result (out.new ≡ out.old ++ body_lists (body ns.now)) }
 {
     for n in ns {
         node(out, alloc, n)?;
@@ -82,7 +83,7 @@ fn branch<'a>(
     alloc: Global,
     b: &'a Branch,
 ) -> Result<(), AllocError>
-    ensures { OnOk result (out.new ≡ out.old ++ branch_lists b.now) }
+    ensures { OnOk result (out.new ≡ out.old ++ body_lists (branch b.now).1) }
 {
     nodes(out, alloc, b.body.as_slice())
 }
@@ -93,7 +94,7 @@ fn branches<'a>(
     alloc: Global,
     bs: &'a [Branch],
 ) -> Result<(), AllocError>
-    ensures { OnOk result (out.new ≡ out.old ++ branches_lists bs.now) }
+    ensures { OnOk result (out.new ≡ out.old ++ branches_lists (branches_of (map branch bs.now))) }
 {
     for b in bs {
         branch(out, alloc, b)?;
@@ -101,10 +102,10 @@ fn branches<'a>(
     Ok(())
 }
 
-fn declared<'a>(alloc: Global, unit: &'a UnitText) -> Result<List<Label<'a>>, AllocError>
-    ensures { IfOk result (λ ns. ns ≡ declared_names unit.now) }
+fn declared<'a>(alloc: Global, u: &'a UnitText) -> Result<List<Label<'a>>, AllocError>
+    ensures { IfOk result (λ ns. ns ≡ declared_names (unit u.now)) }
 {
-    let declarations = declarations(alloc, unit.declarations.as_slice())?;
+    let declarations = declarations(alloc, u.declarations.as_slice())?;
     let ds = declarations.as_slice();
     let mut names = List::new(alloc);
     for d in ds {
@@ -114,31 +115,34 @@ fn declared<'a>(alloc: Global, unit: &'a UnitText) -> Result<List<Label<'a>>, Al
 }
 
 fn dummies<'a>(alloc: Global, head: &'a Form) -> Result<List<Label<'a>>, AllocError>
-    ensures { IfOk result (λ ns. ns ≡ dummy_names head.now) }
+    ensures { IfOk result (λ ns. ns ≡ dummy_names (form head.now)) }
 {
-    let mut names = List::new(alloc);
-    if let Form::Subroutine(_, dummies) = head {
-        labels(&mut names, dummies.as_slice())?;
+    match head {
+        Form::Subroutine(_, dummies) => {
+            let mut names = List::new(alloc);
+            labels(&mut names, dummies.as_slice())?;
+            Ok(names)
+        }
+        _ => Ok(List::new(alloc)),
     }
-    Ok(names)
 }
 
 fn unit<'a>(
     alloc: Global,
     out: &mut List<List<Label<'a>>>,
-    unit: &'a UnitText,
+    u: &'a UnitText,
 ) -> Result<(), AllocError>
-    ensures { OnOk result (out.new ≡ out.old ++ unit_lists unit.now) }
+    ensures { OnOk result (out.new ≡ out.old ++ unit_lists (unit u.now)) }
 {
-    let names = declared(alloc, unit)?;
-    let dummies = dummies(alloc, &unit.head.form)?;
+    let names = declared(alloc, u)?;
+    let dummies = dummies(alloc, &u.head.form)?;
     add(out, names)?;
     add(out, dummies)?;
-    nodes(out, alloc, unit.body.as_slice())
+    nodes(out, alloc, u.body.as_slice())
 }
 
 fn unit_name<'a>(names: &mut List<Label<'a>>, head: &'a Form) -> Result<(), AllocError>
-    ensures { OnOk result (names.new ≡ names.old ++ unit_name head.now) }
+    ensures { OnOk result (names.new ≡ names.old ++ unit_name (form head.now)) }
 {
     match head {
         Form::Program(name) => add(names, label(name)),
@@ -148,7 +152,7 @@ fn unit_name<'a>(names: &mut List<Label<'a>>, head: &'a Form) -> Result<(), Allo
 }
 
 fn head_names<'a>(alloc: Global, units: &'a [UnitText]) -> Result<List<Label<'a>>, AllocError>
-    ensures { IfOk result (λ ns. ns ≡ head_names units.now) }
+    ensures { IfOk result (λ ns. ns ≡ head_names (map unit units.now)) }
 {
     let mut names = List::new(alloc);
     for u in units {
@@ -162,7 +166,7 @@ pub fn name_lists<'a>(
     alloc: Global,
     units: &'a [UnitText],
 ) -> Result<List<List<Label<'a>>>, AllocError>
-    ensures { IfOk result (λ ls. ls ≡ name_lists units.now) }
+    ensures { IfOk result (λ ls. ls ≡ name_lists (map unit units.now)) }
 {
     let names = head_names(alloc, units)?;
     let mut out = List::new(alloc);
@@ -178,7 +182,7 @@ pub fn slot_lists<'a>(
     alloc: Global,
     units: &'a [UnitText],
 ) -> Result<List<List<Label<'a>>>, AllocError>
-    ensures { IfOk result (λ ls. ls ≡ slot_lists units.now) }
+    ensures { IfOk result (λ ls. ls ≡ slot_lists (map unit units.now)) }
 {
     let mut out = List::new(alloc);
     for u in units {

@@ -2,7 +2,7 @@ ghost use Rattle.std.specs.Prelude.{◌≡◌};
 ghost use Rattle.cdc_names.specs.Used.{used};
 
 use cdc_base::Place;
-use cdc_parse::Named;
+use cdc_tree::Named;
 use std::marker::Model;
 
 /// What a use does with its name.

@@ -1,5 +1,7 @@
 ghost use Rattle.std.specs.Prelude.{◌≡◌, [], map, IfOk, OnOk};
-ghost use Rattle.cdc_names.specs.Scopes.{sort_of, sorts_from, value_in, defined, known_after, values_from, scope_of};
+ghost use Rattle.cdc_tree.specs.Units.{unit};
+ghost use Rattle.cdc_names.specs.Declarations.{plain_declaration};
+ghost use Rattle.cdc_names.specs.Scopes.{sort_of, sorts_from, value_in, defined, known_after, values_from, scope_of, plain_scope};
 
 use crate::constants::constant;
 use crate::declaration::Declaration;
@@ -8,7 +10,7 @@ use crate::name_use::NameUse;
 use crate::table::Table;
 use crate::walk::unit_uses;
 use cdc_base::List;
-use cdc_parse::UnitText;
+use cdc_tree::UnitText;
 use std::alloc::{AllocError, Global};
 
 /// What a name is declared as.
@@ -35,7 +37,7 @@ pub struct Scope<'a> {
 }
 
 fn sort_of(d: &Declaration) -> Sort
-    ensures { result ≡ sort_of d.now }
+    ensures { result ≡ sort_of (plain_declaration d.now) }
 {
     if d.value.is_some() {
         return Sort::Parameter;
@@ -48,7 +50,7 @@ fn sort_of(d: &Declaration) -> Sort
 }
 
 fn sorts<'a>(alloc: Global, ds: &[Declaration<'a>]) -> Result<Table<'a, Sort>, AllocError>
-    ensures { IfOk result (λ t. t ≡ sorts_from [] ds.now) }
+    ensures { IfOk result (λ t. t ≡ sorts_from [] (map plain_declaration ds.now)) }
 {
     let mut sorts = Table::new(alloc);
     for d in ds {
@@ -58,7 +60,7 @@ fn sorts<'a>(alloc: Global, ds: &[Declaration<'a>]) -> Result<Table<'a, Sort>, A
 }
 
 fn value_in(values: &Table<i64>, d: &Declaration) -> Option<i64>
-    ensures { result ≡ value_in values.now d.now }
+    ensures { result ≡ value_in values.now (plain_declaration d.now) }
 {
     match d.value {
         None => None,
@@ -81,14 +83,14 @@ fn define<'a>(
 
 /// Adds what a declaration makes known.
 pub fn learn<'a>(values: &mut Table<'a, i64>, d: &Declaration<'a>) -> Result<(), AllocError>
-    ensures { OnOk result (values.new ≡ known_after values.old d.now) }
+    ensures { OnOk result (values.new ≡ known_after values.old (plain_declaration d.now)) }
 {
     let value = value_in(values, d);
     define(values, d.named.name.as_slice(), value)
 }
 
 fn values<'a>(alloc: Global, ds: &[Declaration<'a>]) -> Result<Table<'a, i64>, AllocError>
-    ensures { IfOk result (λ t. t ≡ values_from [] ds.now) }
+    ensures { IfOk result (λ t. t ≡ values_from [] (map plain_declaration ds.now)) }
 {
     let mut values = Table::new(alloc);
     for d in ds {
@@ -98,15 +100,15 @@ fn values<'a>(alloc: Global, ds: &[Declaration<'a>]) -> Result<Table<'a, i64>, A
 }
 
 /// What a unit declares, and its uses of names.
-pub fn scope_of(alloc: Global, unit: &UnitText) -> Result<Scope<'_>, AllocError>
-    ensures { IfOk result (λ s. s ≡ scope_of unit.now) }
+pub fn scope_of(alloc: Global, u: &UnitText) -> Result<Scope<'_>, AllocError>
+    ensures { IfOk result (λ s. plain_scope s ≡ scope_of (unit u.now)) }
 {
-    let declarations = declarations(alloc, unit.declarations.as_slice())?;
+    let declarations = declarations(alloc, u.declarations.as_slice())?;
     let sorts = sorts(alloc, declarations.as_slice())?;
     let values = values(alloc, declarations.as_slice())?;
-    let uses = unit_uses(alloc, unit)?;
+    let uses = unit_uses(alloc, u)?;
     Ok(Scope {
-        implicit: unit.none.is_none(),
+        implicit: u.none.is_none(),
         declarations,
         sorts,
         values,
@@ -116,7 +118,7 @@ pub fn scope_of(alloc: Global, unit: &UnitText) -> Result<Scope<'_>, AllocError>
 
 /// The scopes of all units, in order.
 pub fn scopes_of(alloc: Global, units: &[UnitText]) -> Result<List<Scope<'_>>, AllocError>
-    ensures { IfOk result (λ ss. ss ≡ map scope_of units.now) }
+    ensures { IfOk result (λ ss. map plain_scope ss ≡ map scope_of (map unit units.now)) }
 {
     let mut scopes = List::new(alloc);
     for u in units {

@@ -1,13 +1,15 @@
-ghost use Rattle.std.specs.Prelude.{◌≡◌, ◌++◌, ◌∷◌, [], map, IfOk, OnOk};
-ghost use Rattle.std.specs.Option.{option_copied};
+ghost use Rattle.std.specs.Prelude.{◌≡◌, ◌++◌, ◌∷◌, [], map, option_map, IfOk, OnOk};
+ghost use Rattle.cdc_tree.specs.Plain.{plain, plains};
+ghost use Rattle.cdc_tree.specs.Forms.{bound, declared, define, spot, loop, shown, form, statement};
+ghost use Rattle.cdc_tree.specs.Units.{node, body, branch, branches_of, unit};
 ghost use Rattle.cdc_names.specs.Places.{joined};
 ghost use Rattle.cdc_names.specs.Used.{used};
-ghost use Rattle.cdc_names.specs.Uses.{tree_uses, trees_uses, optional_uses, names_uses, spot_uses, spots_uses, actual_uses, shown_uses, bound_uses, item_uses, define_uses, control_uses, form_uses, statement_uses, statements_uses, closing_uses, node_uses, nodes_uses, branch_uses, branches_uses, unit_uses};
+ghost use Rattle.cdc_names.specs.Uses.{tree_uses, trees_uses, optional_uses, names_uses, spot_uses, spots_uses, actual_uses, shown_uses, bound_uses, item_uses, define_uses, control_uses, form_uses, statement_uses, statements_uses, closing_uses, node_uses, body_uses, branch_uses, branches_uses, unit_uses};
 
 use crate::declared::add;
 use crate::name_use::{NameUse, Role};
 use cdc_base::List;
-use cdc_parse::{
+use cdc_tree::{
     Bound, Branch, Declared, Define, Form, Loop, Named, Node, Shown, Spot, Statement, Tree,
     UnitText,
 };
@@ -35,7 +37,7 @@ fn names<'a>(out: &mut List<NameUse<'a>>, names: &'a [Named], role: Role) -> Res
 
 #[cycle(tree)]
 fn tree<'a>(out: &mut List<NameUse<'a>>, t: &'a Tree) -> Result<(), AllocError>
-    ensures { OnOk result (out.new ≡ out.old ++ tree_uses t.now) }
+    ensures { OnOk result (out.new ≡ out.old ++ tree_uses (plain t.now)) }
 {
     match t {
         Tree::Number(_, _) => Ok(()),
@@ -58,7 +60,7 @@ fn tree<'a>(out: &mut List<NameUse<'a>>, t: &'a Tree) -> Result<(), AllocError>
 
 #[cycle(tree)]
 fn trees<'a>(out: &mut List<NameUse<'a>>, ts: &'a [Tree]) -> Result<(), AllocError>
-    ensures { OnOk result (out.new ≡ out.old ++ trees_uses ts.now) }
+    ensures { OnOk result (out.new ≡ out.old ++ trees_uses (plains (map plain ts.now))) }
 {
     for t in ts {
         tree(out, t)?;
@@ -67,7 +69,7 @@ fn trees<'a>(out: &mut List<NameUse<'a>>, ts: &'a [Tree]) -> Result<(), AllocErr
 }
 
 fn optional<'a>(out: &mut List<NameUse<'a>>, t: &'a Option<Tree>) -> Result<(), AllocError>
-    ensures { OnOk result (out.new ≡ out.old ++ optional_uses t.now) }
+    ensures { OnOk result (out.new ≡ out.old ++ optional_uses (option_map plain t.now)) }
 {
     match t {
         None => Ok(()),
@@ -76,7 +78,7 @@ fn optional<'a>(out: &mut List<NameUse<'a>>, t: &'a Option<Tree>) -> Result<(), 
 }
 
 fn spot<'a>(out: &mut List<NameUse<'a>>, s: &'a Spot, role: Role) -> Result<(), AllocError>
-    ensures { OnOk result (out.new ≡ out.old ++ spot_uses role s.now) }
+    ensures { OnOk result (out.new ≡ out.old ++ spot_uses role (spot s.now)) }
 {
     let subs = s.subs.as_slice();
     name(out, &s.name, role, subs.len())?;
@@ -84,7 +86,7 @@ fn spot<'a>(out: &mut List<NameUse<'a>>, s: &'a Spot, role: Role) -> Result<(), 
 }
 
 fn spots<'a>(out: &mut List<NameUse<'a>>, ss: &'a [Spot], role: Role) -> Result<(), AllocError>
-    ensures { OnOk result (out.new ≡ out.old ++ spots_uses role ss.now) }
+    ensures { OnOk result (out.new ≡ out.old ++ spots_uses role (map spot ss.now)) }
 {
     for s in ss {
         spot(out, s, role)?;
@@ -93,7 +95,7 @@ fn spots<'a>(out: &mut List<NameUse<'a>>, ss: &'a [Spot], role: Role) -> Result<
 }
 
 fn actual<'a>(out: &mut List<NameUse<'a>>, t: &'a Tree) -> Result<(), AllocError>
-    ensures { OnOk result (out.new ≡ out.old ++ actual_uses t.now) }
+    ensures { OnOk result (out.new ≡ out.old ++ actual_uses (plain t.now)) }
 {
     match t {
         Tree::Name(n) => name(out, n, Role::Actual, 0),
@@ -102,7 +104,7 @@ fn actual<'a>(out: &mut List<NameUse<'a>>, t: &'a Tree) -> Result<(), AllocError
 }
 
 fn actuals<'a>(out: &mut List<NameUse<'a>>, ts: &'a [Tree]) -> Result<(), AllocError>
-    ensures { OnOk result (out.new ≡ out.old ++ joined (map actual_uses ts.now)) }
+    ensures { OnOk result (out.new ≡ out.old ++ joined (map actual_uses (map plain ts.now))) }
 {
     for t in ts {
         actual(out, t)?;
@@ -111,7 +113,7 @@ fn actuals<'a>(out: &mut List<NameUse<'a>>, ts: &'a [Tree]) -> Result<(), AllocE
 }
 
 fn shown<'a>(out: &mut List<NameUse<'a>>, item: &'a Shown) -> Result<(), AllocError>
-    ensures { OnOk result (out.new ≡ out.old ++ shown_uses item.now) }
+    ensures { OnOk result (out.new ≡ out.old ++ shown_uses (shown item.now)) }
 {
     match item {
         Shown::Text(_) => Ok(()),
@@ -120,7 +122,7 @@ fn shown<'a>(out: &mut List<NameUse<'a>>, item: &'a Shown) -> Result<(), AllocEr
 }
 
 fn shown_items<'a>(out: &mut List<NameUse<'a>>, items: &'a [Shown]) -> Result<(), AllocError>
-    ensures { OnOk result (out.new ≡ out.old ++ joined (map shown_uses items.now)) }
+    ensures { OnOk result (out.new ≡ out.old ++ joined (map shown_uses (map shown items.now))) }
 {
     for item in items {
         shown(out, item)?;
@@ -129,7 +131,7 @@ fn shown_items<'a>(out: &mut List<NameUse<'a>>, items: &'a [Shown]) -> Result<()
 }
 
 fn bounds<'a>(out: &mut List<NameUse<'a>>, bs: &'a [Bound]) -> Result<(), AllocError>
-    ensures { OnOk result (out.new ≡ out.old ++ joined (map bound_uses bs.now)) }
+    ensures { OnOk result (out.new ≡ out.old ++ joined (map bound_uses (map bound bs.now))) }
 {
     for b in bs {
         optional(out, &b.low)?;
@@ -139,7 +141,7 @@ fn bounds<'a>(out: &mut List<NameUse<'a>>, bs: &'a [Bound]) -> Result<(), AllocE
 }
 
 fn variables<'a>(out: &mut List<NameUse<'a>>, items: &'a [Declared]) -> Result<(), AllocError>
-    ensures { OnOk result (out.new ≡ out.old ++ joined (map item_uses items.now)) }
+    ensures { OnOk result (out.new ≡ out.old ++ joined (map item_uses (map declared items.now))) }
 {
     for item in items {
         bounds(out, item.bounds.as_slice())?;
@@ -148,7 +150,7 @@ fn variables<'a>(out: &mut List<NameUse<'a>>, items: &'a [Declared]) -> Result<(
 }
 
 fn parameters<'a>(out: &mut List<NameUse<'a>>, items: &'a [Define]) -> Result<(), AllocError>
-    ensures { OnOk result (out.new ≡ out.old ++ joined (map define_uses items.now)) }
+    ensures { OnOk result (out.new ≡ out.old ++ joined (map define_uses (map define items.now))) }
 {
     for item in items {
         tree(out, &item.value)?;
@@ -157,7 +159,7 @@ fn parameters<'a>(out: &mut List<NameUse<'a>>, items: &'a [Define]) -> Result<()
 }
 
 fn controls<'a>(out: &mut List<NameUse<'a>>, l: &'a Loop) -> Result<(), AllocError>
-    ensures { OnOk result (out.new ≡ out.old ++ control_uses l.now) }
+    ensures { OnOk result (out.new ≡ out.old ++ control_uses (loop l.now)) }
 {
     tree(out, &l.from)?;
     tree(out, &l.to)?;
@@ -166,7 +168,7 @@ fn controls<'a>(out: &mut List<NameUse<'a>>, l: &'a Loop) -> Result<(), AllocErr
 
 #[cycle(form)]
 fn form<'a>(out: &mut List<NameUse<'a>>, f: &'a Form) -> Result<(), AllocError>
-    ensures { OnOk result (out.new ≡ out.old ++ form_uses f.now) }
+    ensures { OnOk result (out.new ≡ out.old ++ form_uses (form f.now)) }
 {
     match f {
         Form::Subroutine(_, dummies) => names(out, dummies.as_slice(), Role::Dummy),
@@ -200,13 +202,13 @@ fn form<'a>(out: &mut List<NameUse<'a>>, f: &'a Form) -> Result<(), AllocError>
 
 #[cycle(form)]
 fn statement<'a>(out: &mut List<NameUse<'a>>, s: &'a Statement) -> Result<(), AllocError>
-    ensures { OnOk result (out.new ≡ out.old ++ statement_uses s.now) }
+    ensures { OnOk result (out.new ≡ out.old ++ statement_uses (statement s.now)) }
 {
     form(out, &s.form)
 }
 
 fn statements<'a>(out: &mut List<NameUse<'a>>, ss: &'a [Statement]) -> Result<(), AllocError>
-    ensures { OnOk result (out.new ≡ out.old ++ statements_uses ss.now) }
+    ensures { OnOk result (out.new ≡ out.old ++ statements_uses (map statement ss.now)) }
 {
     for s in ss {
         statement(out, s)?;
@@ -215,7 +217,7 @@ fn statements<'a>(out: &mut List<NameUse<'a>>, ss: &'a [Statement]) -> Result<()
 }
 
 fn closing<'a>(out: &mut List<NameUse<'a>>, f: &'a Form) -> Result<(), AllocError>
-    ensures { OnOk result (out.new ≡ out.old ++ closing_uses f.now) }
+    ensures { OnOk result (out.new ≡ out.old ++ closing_uses (form f.now)) }
 {
     match f {
         Form::Do(l) => name(out, &l.var, Role::Closed, 0),
@@ -229,7 +231,7 @@ fn closing<'a>(out: &mut List<NameUse<'a>>, f: &'a Form) -> Result<(), AllocErro
 
 #[cycle(node)]
 fn node<'a>(out: &mut List<NameUse<'a>>, n: &'a Node) -> Result<(), AllocError>
-    ensures { OnOk result (out.new ≡ out.old ++ node_uses n.now) }
+    ensures { OnOk result (out.new ≡ out.old ++ node_uses (node n.now)) }
 {
     match n {
         Node::Plain(s) => statement(out, s),
@@ -250,7 +252,7 @@ fn node<'a>(out: &mut List<NameUse<'a>>, n: &'a Node) -> Result<(), AllocError>
 
 #[cycle(node)]
 fn nodes<'a>(out: &mut List<NameUse<'a>>, ns: &'a [Node]) -> Result<(), AllocError>
-    ensures { OnOk result (out.new ≡ out.old ++ nodes_uses ns.now) }
+    ensures { OnOk result (out.new ≡ out.old ++ body_uses (body ns.now)) }
 {
     for n in ns {
         node(out, n)?;
@@ -260,7 +262,7 @@ fn nodes<'a>(out: &mut List<NameUse<'a>>, ns: &'a [Node]) -> Result<(), AllocErr
 
 #[cycle(node)]
 fn branch<'a>(out: &mut List<NameUse<'a>>, b: &'a Branch) -> Result<(), AllocError>
-    ensures { OnOk result (out.new ≡ out.old ++ branch_uses b.now) }
+    ensures { OnOk result (out.new ≡ out.old ++ branch_uses (branch b.now)) }
 {
     statement(out, &b.head)?;
     nodes(out, b.body.as_slice())
@@ -268,7 +270,7 @@ fn branch<'a>(out: &mut List<NameUse<'a>>, b: &'a Branch) -> Result<(), AllocErr
 
 #[cycle(node)]
 fn branches<'a>(out: &mut List<NameUse<'a>>, bs: &'a [Branch]) -> Result<(), AllocError>
-    ensures { OnOk result (out.new ≡ out.old ++ branches_uses bs.now) }
+    ensures { OnOk result (out.new ≡ out.old ++ branches_uses (branches_of (map branch bs.now))) }
 {
     for b in bs {
         branch(out, b)?;
@@ -277,12 +279,12 @@ fn branches<'a>(out: &mut List<NameUse<'a>>, bs: &'a [Branch]) -> Result<(), All
 }
 
 /// The uses of names in a unit, in the order of its text.
-pub fn unit_uses(alloc: Global, unit: &UnitText) -> Result<List<NameUse<'_>>, AllocError>
-    ensures { IfOk result (λ us. us ≡ unit_uses unit.now) }
+pub fn unit_uses(alloc: Global, u: &UnitText) -> Result<List<NameUse<'_>>, AllocError>
+    ensures { IfOk result (λ us. us ≡ unit_uses (unit u.now)) }
 {
     let mut out = List::new(alloc);
-    statement(&mut out, &unit.head)?;
-    statements(&mut out, unit.declarations.as_slice())?;
-    nodes(&mut out, unit.body.as_slice())?;
+    statement(&mut out, &u.head)?;
+    statements(&mut out, u.declarations.as_slice())?;
+    nodes(&mut out, u.body.as_slice())?;
     Ok(out)
 }

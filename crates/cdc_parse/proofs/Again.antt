@@ -6,18 +6,20 @@ use Rattle.cdc_prog.specs.declared.expr.BinOp.{BinOp}
 use Rattle.cdc_token.specs.declared.token.Lexed.{Lexed}
 use Rattle.cdc_token.specs.declared.token.Symbol.TheVariants as q
 use Rattle.cdc_parse.specs.declared.operator.Sign.{Sign}
-use Rattle.cdc_parse.specs.declared.tree.Named.{Named}
-use Rattle.cdc_parse.specs.declared.tree.Intrinsic.{Intrinsic}
-use Rattle.cdc_parse.specs.declared.tree.Intrinsic.TheVariants as i
+use Rattle.cdc_tree.specs.declared.tree.Named.{Named}
+use Rattle.cdc_tree.specs.declared.tree.Intrinsic.{Intrinsic}
+use Rattle.cdc_tree.specs.declared.tree.Intrinsic.TheVariants as i
 use Rattle.cdc_parse.specs.declared.word.Word.{Word}
 use Rattle.cdc_parse.specs.Words.{spelling}
-use Rattle.cdc_parse.specs.Tokens.{mark, word, IsName, ◌>>=◌, maybe, same, after}
+use Rattle.cdc_tree.specs.Options.{◌>>=◌, maybe}
+use Rattle.cdc_parse.specs.Tokens.{mark, word, IsName, same, after}
 use Rattle.cdc_parse.specs.Operators.{sign_symbol, sign_rank, symbol, rank, sign_at, operator_at}
-use Rattle.cdc_parse.specs.Plain.{Plain, PName, PApply, PParen, PBin, PKnown, PMore, Plains, plains}
+use Rattle.cdc_tree.specs.Plain.{Plain, PName, PApply, PParen, PBin, PKnown, PMore, Plains, plains}
 use Rattle.cdc_parse.specs.Reading.{Gets, separated, closed, signed, chain, first, tiers, intrinsic_of, named, factor_in, inside, read}
 use Rattle.cdc_parse.specs.Written.{Written, WNumber, WName, WApply, WKnown, WParen, WUnary, WBinary, Rest, REnd, RMore, text, texts, meant, meants, Fits, FitsAll, intrinsic_word}
 use Rattle.cdc_parse.specs.Stands.{Writes, Commas, Separated}
-use Rattle.cdc_parse.proofs.Begins.{some, after_mark, operator_at_self, operator_at_other, sign_at_self, sign_at_other, operator_opens_none, word_named_self}
+use Rattle.cdc_tree.proofs.Options.{some}
+use Rattle.cdc_parse.proofs.Begins.{after_mark, operator_at_self, operator_at_other, sign_at_self, sign_at_other, operator_opens_none, word_named_self}
 use Rattle.cdc_parse.proofs.Lists.{IsAgain, separated_again, closed_again}
 use Rattle.cdc_parse.proofs.Deep.{Shallow, ShallowAll}
 use Rattle.cdc_parse.proofs.Sound.{Fits-more}

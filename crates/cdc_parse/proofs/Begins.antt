@@ -1,5 +1,5 @@
 -- What a list of tokens begins with, both ways.
-use Rattle.std.proofs.Common.{◌≡◌, ℕ, ◌<◌, Bool, true, false, cond, eqb, List, [], ◌∷◌, Option, Some, None, refl, sym, ap, subst, ◌∙◌, arith, inl, inr, ◌⊎◌, bytes_eq}
+use Rattle.std.proofs.Common.{◌≡◌, ℕ, ◌<◌, Bool, true, false, cond, eqb, List, [], ◌∷◌, Option, Some, None, refl, sym, ap, subst, ◌∙◌, arith, bytes_eq}
 use Rattle.std.specs.List.{find}
 use Rattle.std.proofs.lemmas.Bool.{eqb-true, eq-eqb, ne_eqb}
 use Rattle.std.proofs.lemmas.Slice.Eq.{bytes_eq-Decides}
@@ -9,42 +9,24 @@ use Rattle.cdc_prog.specs.declared.expr.BinOp.{BinOp}
 use Rattle.cdc_prog.specs.declared.expr.BinOp.TheVariants as b
 use Rattle.cdc_token.specs.declared.token.Lexed.{Lexed}
 use Rattle.cdc_token.specs.declared.token.Token.{Token}
-use Rattle.cdc_token.specs.declared.token.Token.TheVariants.{Name, Number, Text, Symbol}
+use Rattle.cdc_token.specs.declared.token.Token.TheVariants.{Name, Symbol}
 use Rattle.cdc_token.specs.declared.token.Symbol.{Symbol as Mark}
 use Rattle.cdc_token.specs.declared.token.Symbol.TheVariants as q
 use Rattle.cdc_token.specs.contracts.token.Symbol.{the_type as mark_type}
 use Rattle.cdc_parse.specs.contracts.word.Word.{the_type as word_type}
-use Rattle.cdc_parse.specs.declared.tree.Named.{Named}
-use Rattle.cdc_parse.specs.declared.tree.Intrinsic.{Intrinsic}
+use Rattle.cdc_tree.specs.declared.tree.Named.{Named}
+use Rattle.cdc_tree.specs.declared.tree.Intrinsic.{Intrinsic}
 use Rattle.cdc_parse.specs.declared.operator.Sign.{Sign}
 use Rattle.cdc_parse.specs.declared.operator.Sign.TheVariants as g
 use Rattle.cdc_parse.specs.declared.word.Word.{Word}
 use Rattle.cdc_parse.specs.declared.word.Word.TheVariants as w
+use Rattle.cdc_tree.proofs.Options.{some, some_is, bind_some, if_some}
 use Rattle.cdc_parse.specs.Words.{spelling, words, word_named, same_word}
-use Rattle.cdc_parse.specs.Tokens.{at, mark, word, name, IsName, ◌>>=◌, maybe, same, after_token, after, word_of, word_at, after_word, unreserved, name_token, name_at, finished}
+use Rattle.cdc_tree.specs.Options.{◌>>=◌}
+use Rattle.cdc_parse.specs.Tokens.{at, mark, word, name, IsName, same, after_token, after, word_of, word_at, after_word, unreserved, name_token, name_at, finished}
 use Rattle.cdc_parse.specs.Operators.{sign_of, sign_symbol, sign_rank, operator_of, symbol, rank, sign_in, sign_at, operator_in, operator_at}
 use Rattle.cdc_parse.specs.Reading.{intrinsic_of}
 use Rattle.cdc_parse.specs.Written.{intrinsic_word}
-
--- ---- options
-
-abbrev pub some : {A : Type 0} → A → Option A
-some x = Some x
-
-pub some_is : {A : Type 0} (x y : A) → some x ≡ some y → x ≡ y
-some_is x y e = cc
-
-pub bind_some : {A B : Type 0} (r : Option A) (f : A → Option B) (y : B) → (r >>= f) ≡ Some y → (x : A) × (r ≡ Some x) × (f x ≡ Some y)
-bind_some (Some x) f y e = (x, refl, e)
-bind_some None f y e = absurd cc
-
-pub maybe_is : {A X : Type 0} (o : Option A) (f : A → X) (d x : X) → maybe o f d ≡ x → ((o ≡ None) × (d ≡ x)) ⊎ ((a : A) × (o ≡ Some a) × (f a ≡ x))
-maybe_is (Some a) f d x e = inr (a, refl, e)
-maybe_is None f d x e = inl (refl, e)
-
-pub if_some : {A : Type 0} (t : Bool) (x y : A) → cond t (some x) None ≡ Some y → (t ≡ true) × (x ≡ y)
-if_some true x y e = (refl, some_is x y e)
-if_some false x y e = absurd cc
 
 -- ---- symbols
 
@@ -60,9 +42,7 @@ after_as : (s : Mark) (k : Token) (p : Place) (ts us : List Lexed) → after_tok
 after_as s (Symbol m) p ts us e =
     let h = if_some (same m s) ts us e in
     ap (λ (x : Mark). mark p x ∷ ts) (same_is m s h.0) ∙ ap (λ (z : List Lexed). mark p s ∷ z) h.1
-after_as s (Name n) p ts us e = absurd cc
-after_as s (Number n) p ts us e = absurd cc
-after_as s (Text n) p ts us e = absurd cc
+after_as s x p ts us e = absurd cc
 
 pub after_is : (s : Mark) (ts us : List Lexed) → after s ts ≡ Some us → (p : Place) × (ts ≡ mark p s ∷ us)
 after_is s [] us e = absurd cc
@@ -115,9 +95,7 @@ word_named_is n x e = sym ((bytes_eq-Decides (spelling x) n).0 (find_is (λ (v :
 
 word_of_is : (k : Token) (x : Word) → word_of k ≡ Some x → k ≡ Name (spelling x)
 word_of_is (Name n) x e = ap (λ (z : List ℕ). Name z) (word_named_is n x e)
-word_of_is (Number n) x e = absurd cc
-word_of_is (Text n) x e = absurd cc
-word_of_is (Symbol n) x e = absurd cc
+word_of_is y x e = absurd cc
 
 pub word_at_is : (ts us : List Lexed) (x : Word) → word_at ts ≡ Some (x, us) → (p : Place) × (ts ≡ word p x ∷ us)
 word_at_is [] us x e = absurd cc
@@ -161,9 +139,7 @@ name_as n p ts us x None h e =
 
 name_in : (k : Token) (p : Place) (ts us : List Lexed) (x : Named) → name_token p k ts ≡ Some (x, us) → IsName x × (at p k ∷ ts ≡ name x ∷ us)
 name_in (Name n) p ts us x e = name_as n p ts us x (word_named n) refl e
-name_in (Number n) p ts us x e = absurd cc
-name_in (Text n) p ts us x e = absurd cc
-name_in (Symbol n) p ts us x e = absurd cc
+name_in y p ts us x e = absurd cc
 
 pub name_at_is : (ts us : List Lexed) (x : Named) → name_at ts ≡ Some (x, us) → IsName x × (ts ≡ name x ∷ us)
 name_at_is [] us x e = absurd cc
@@ -183,54 +159,19 @@ finished_is [] x e = refl
 finished_is (t ∷ ts) x e = absurd cc
 
 pub intrinsic_is : (x : Word) (f : Intrinsic) → intrinsic_of x ≡ Some f → x ≡ intrinsic_word f
-intrinsic_is w.Program f e = absurd cc
-intrinsic_is w.Subroutine f e = absurd cc
-intrinsic_is w.End f e = absurd cc
-intrinsic_is w.EndDo f e = absurd cc
-intrinsic_is w.EndIf f e = absurd cc
-intrinsic_is w.EndDoall f e = absurd cc
-intrinsic_is w.Integer f e = absurd cc
-intrinsic_is w.Parameter f e = absurd cc
-intrinsic_is w.Implicit f e = absurd cc
-intrinsic_is w.Nothing f e = absurd cc
-intrinsic_is w.Do f e = absurd cc
-intrinsic_is w.Doall f e = absurd cc
-intrinsic_is w.Private f e = absurd cc
-intrinsic_is w.If f e = absurd cc
-intrinsic_is w.Then f e = absurd cc
-intrinsic_is w.Else f e = absurd cc
-intrinsic_is w.ElseIf f e = absurd cc
-intrinsic_is w.Call f e = absurd cc
-intrinsic_is w.Read f e = absurd cc
-intrinsic_is w.Print f e = absurd cc
 intrinsic_is w.Abs f e = ap intrinsic_word (some_is _ f e)
 intrinsic_is w.Min f e = ap intrinsic_word (some_is _ f e)
 intrinsic_is w.Max f e = ap intrinsic_word (some_is _ f e)
 intrinsic_is w.Mod f e = ap intrinsic_word (some_is _ f e)
-intrinsic_is w.Common f e = absurd cc
+intrinsic_is x f e = absurd cc
 
 -- ---- signs and operators
 
 sign_of_is : (s : Mark) (x : Sign) → sign_of s ≡ Some x → s ≡ sign_symbol x
-sign_of_is q.LeftParen x e = absurd cc
-sign_of_is q.RightParen x e = absurd cc
-sign_of_is q.Comma x e = absurd cc
-sign_of_is q.Colon x e = absurd cc
-sign_of_is q.DoubleColon x e = absurd cc
-sign_of_is q.Assign x e = absurd cc
 sign_of_is q.Plus x e = ap sign_symbol (some_is _ x e)
 sign_of_is q.Minus x e = ap sign_symbol (some_is _ x e)
-sign_of_is q.Star x e = absurd cc
-sign_of_is q.Slash x e = absurd cc
-sign_of_is q.Eq x e = absurd cc
-sign_of_is q.Ne x e = absurd cc
-sign_of_is q.Lt x e = absurd cc
-sign_of_is q.Le x e = absurd cc
-sign_of_is q.Gt x e = absurd cc
-sign_of_is q.Ge x e = absurd cc
 sign_of_is q.Not x e = ap sign_symbol (some_is _ x e)
-sign_of_is q.And x e = absurd cc
-sign_of_is q.Or x e = absurd cc
+sign_of_is y x e = absurd cc
 
 pub sign_self : (x : Sign) → sign_of (sign_symbol x) ≡ Some x
 sign_self g.Plus = refl
@@ -244,19 +185,8 @@ operator_of_is q.Comma x e = absurd cc
 operator_of_is q.Colon x e = absurd cc
 operator_of_is q.DoubleColon x e = absurd cc
 operator_of_is q.Assign x e = absurd cc
-operator_of_is q.Plus x e = ap symbol (some_is _ x e)
-operator_of_is q.Minus x e = ap symbol (some_is _ x e)
-operator_of_is q.Star x e = ap symbol (some_is _ x e)
-operator_of_is q.Slash x e = ap symbol (some_is _ x e)
-operator_of_is q.Eq x e = ap symbol (some_is _ x e)
-operator_of_is q.Ne x e = ap symbol (some_is _ x e)
-operator_of_is q.Lt x e = ap symbol (some_is _ x e)
-operator_of_is q.Le x e = ap symbol (some_is _ x e)
-operator_of_is q.Gt x e = ap symbol (some_is _ x e)
-operator_of_is q.Ge x e = ap symbol (some_is _ x e)
 operator_of_is q.Not x e = absurd cc
-operator_of_is q.And x e = ap symbol (some_is _ x e)
-operator_of_is q.Or x e = ap symbol (some_is _ x e)
+operator_of_is y x e = ap symbol (some_is _ x e)
 
 pub operator_self : (x : BinOp) → rank x < 9 → operator_of (symbol x) ≡ Some x
 operator_self b.Add lt = refl
@@ -280,9 +210,7 @@ sign_in_is r (Symbol s) x e =
     let h = bind_some (sign_of s) (λ (y : Sign). cond (eqb (sign_rank y) r) (Some y) None) x e in
     let c = if_some (eqb (sign_rank h.0) r) h.0 x h.2 in
     (ap (λ (m : Mark). Symbol m) (sign_of_is s x (h.1 ∙ ap (λ (y : Sign). some y) c.1)), ap sign_rank (sym c.1) ∙ eqb-true (sign_rank h.0) r c.0)
-sign_in_is r (Name n) x e = absurd cc
-sign_in_is r (Number n) x e = absurd cc
-sign_in_is r (Text n) x e = absurd cc
+sign_in_is r y x e = absurd cc
 
 pub record SignAt (r : ℕ) (ts : List Lexed) (s : Sign × Place × List Lexed) : Type 0 where
   pub parts : ts ≡ mark s.1 (sign_symbol s.0) ∷ s.2
@@ -301,9 +229,7 @@ operator_in_is r (Symbol s) x e =
     let h = bind_some (operator_of s) (λ (y : BinOp). cond (eqb (rank y) r) (Some y) None) x e in
     let c = if_some (eqb (rank h.0) r) h.0 x h.2 in
     (ap (λ (m : Mark). Symbol m) (operator_of_is s x (h.1 ∙ ap (λ (y : BinOp). some y) c.1)), ap rank (sym c.1) ∙ eqb-true (rank h.0) r c.0)
-operator_in_is r (Name n) x e = absurd cc
-operator_in_is r (Number n) x e = absurd cc
-operator_in_is r (Text n) x e = absurd cc
+operator_in_is r y x e = absurd cc
 
 pub record OperatorAt (r : ℕ) (ts : List Lexed) (o : BinOp × List Lexed) : Type 0 where
   pub place : Place

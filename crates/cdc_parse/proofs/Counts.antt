@@ -1,10 +1,10 @@
 -- The number of arguments of an intrinsic function.
 use Rattle.std.proofs.Common.{◌≡◌, ℕ, suc, Bool, true, false, ◌&&◌, List, [], ◌∷◌, length, map, refl, sym, ap, ◌∙◌}
-use Rattle.cdc_parse.specs.declared.tree.Intrinsic.{Intrinsic}
-use Rattle.cdc_parse.specs.declared.tree.Tree.{Tree}
+use Rattle.cdc_tree.specs.declared.tree.Intrinsic.{Intrinsic}
+use Rattle.cdc_tree.specs.declared.tree.Tree.{Tree}
 use Rattle.cdc_parse.specs.declared.kind.Kind.{Kind}
 use Rattle.cdc_parse.specs.declared.kind.Kind.TheVariants as k
-use Rattle.cdc_parse.specs.Plain.{Plains, plain, plains}
+use Rattle.cdc_tree.specs.Plain.{Plains, plain, plains}
 use Rattle.cdc_parse.specs.Kinds.{takes, count, are_numbers, number_if, known_kind}
 
 pub count_view : (ts : List Tree) → count (plains (map plain ts)) ≡ length ts

@@ -6,15 +6,15 @@ use Rattle.cdc_prog.specs.declared.expr.BinOp.{BinOp}
 use Rattle.cdc_prog.specs.declared.expr.BinOp.TheVariants as b
 use Rattle.cdc_parse.specs.declared.operator.Sign.{Sign}
 use Rattle.cdc_parse.specs.declared.operator.Sign.TheVariants as g
-use Rattle.cdc_parse.specs.declared.tree.Named.{Named}
-use Rattle.cdc_parse.specs.declared.tree.Intrinsic.{Intrinsic}
-use Rattle.cdc_parse.specs.declared.tree.Intrinsic.TheVariants as i
+use Rattle.cdc_tree.specs.declared.tree.Named.{Named}
+use Rattle.cdc_tree.specs.declared.tree.Intrinsic.{Intrinsic}
+use Rattle.cdc_tree.specs.declared.tree.Intrinsic.TheVariants as i
 use Rattle.cdc_parse.specs.declared.kind.Kind.{Kind}
 use Rattle.cdc_parse.specs.declared.kind.Kind.TheVariants as k
 use Rattle.cdc_parse.specs.Tokens.{IsName}
 use Rattle.cdc_parse.specs.Operators.{rank, sign_rank}
 use Rattle.cdc_parse.specs.Kinds.{number_if, is_number, if_number, if_truth, binary_kind, takes, count, kind, are_numbers}
-use Rattle.cdc_parse.specs.Plain.{Plains, PMore}
+use Rattle.cdc_tree.specs.Plain.{Plains, PMore}
 use Rattle.cdc_parse.specs.Written.{Written, WNumber, WName, WApply, WKnown, WParen, WUnary, WBinary, Rest, REnd, RMore, meant, meants, Fits, FitsAll}
 use Rattle.cdc_parse.specs.Grammar.{Factor, FNumber, FName, FApply, FParen, FAbs, FMod, FMin, FMax, Further, MEnd, MMore, Term, TOne, TMul, TDiv, Expr, EOne, EPlus, EMinus, EAdd, ESub, Atom, ACompare, AParen, Neg, NOne, NNot, Conj, JOne, JAnd, Cond, COne, COr, factor, further, term, expr, atom, neg, conj, condition}
 use Rattle.cdc_parse.proofs.Sound.{Fits-more}

@@ -4,28 +4,32 @@ use Rattle.std.proofs.lemmas.List.{append-nil}
 use Rattle.cdc_base.specs.declared.place.Place.{Place}
 use Rattle.cdc_token.specs.declared.token.Lexed.{Lexed}
 use Rattle.cdc_token.specs.declared.token.Symbol.TheVariants as q
-use Rattle.cdc_parse.specs.declared.tree.Named.{Named}
-use Rattle.cdc_parse.specs.declared.form.Ending.{Ending}
-use Rattle.cdc_parse.specs.declared.form.Ending.TheVariants as e
+use Rattle.cdc_tree.specs.declared.tree.Named.{Named}
+use Rattle.cdc_tree.specs.declared.form.Ending.{Ending}
+use Rattle.cdc_tree.specs.declared.form.Ending.TheVariants as e
 use Rattle.cdc_parse.specs.declared.kind.Kind.{Kind}
 use Rattle.cdc_parse.specs.declared.kind.Kind.TheVariants as k
 use Rattle.cdc_parse.specs.declared.word.Word.{Word}
 use Rattle.cdc_parse.specs.declared.word.Word.TheVariants as w
-use Rattle.cdc_parse.specs.Tokens.{mark, word, name, IsName, ◌>>=◌, maybe, same, after, word_at, after_word, name_at, finished}
-use Rattle.cdc_parse.specs.Plain.{Plain}
+use Rattle.cdc_tree.specs.Options.{◌>>=◌, maybe}
+use Rattle.cdc_parse.specs.Tokens.{mark, word, name, IsName, same, after, word_at, after_word, name_at, finished}
+use Rattle.cdc_tree.specs.Plain.{Plain}
 use Rattle.cdc_parse.specs.Kinds.{kind}
 use Rattle.cdc_parse.specs.Reading.{Gets, more, separated, closed}
 use Rattle.cdc_parse.specs.Written.{Written, WNumber, WName, WApply, WKnown, WParen, WUnary, WBinary, text, meant, Fits, IsExpression, IsCondition}
-use Rattle.cdc_parse.specs.Forms.{PBound, PDeclared, PDefine, PSpot, PLoop, PShown, PText, PValue, PForm, FProgram, FSubroutine, FEnd, FImplicitNone, FInteger, FParameter, FAssign, FIfThen, FElseIf, FElse, FEndIf, FLogicalIf, FDo, FEndDo, FDoall, FEndDoall, FCall, FPrint, FRead, of_kind, whole, number_at, condition_at, in_parens, subscripted, without, last_name, end_by, end_at, bound_at, declared_at, define_at, spot_at, parameter_at, items_at, integer_at, assign_at, guard_at, step_at, loop_at, privates_at, call_at, valued, shown_at, print_at, read_at, simple_by, simple_at, logical, if_at, else_if_at, form_by, form_at, statement_at}
+use Rattle.cdc_tree.specs.Forms.{PBound, PDeclared, PDefine, PSpot, PLoop, PShown, PText, PValue, PForm, FProgram, FSubroutine, FEnd, FImplicitNone, FInteger, FParameter, FAssign, FIfThen, FElseIf, FElse, FEndIf, FLogicalIf, FDo, FEndDo, FDoall, FEndDoall, FCall, FPrint, FRead, PStatement}
+use Rattle.cdc_parse.specs.Forms.{of_kind, whole, number_at, condition_at, in_parens, subscripted, without, last_name, end_by, end_at, bound_at, declared_at, define_at, spot_at, parameter_at, items_at, integer_at, assign_at, guard_at, step_at, loop_at, privates_at, call_at, valued, shown_at, print_at, read_at, simple_by, simple_at, logical, if_at, else_if_at, form_by, form_at, statement_at}
 use Rattle.cdc_parse.specs.Stands.{Writes, Commas, Separated, Bracketed, Subscripted, InParens, IsNamed, LastName, IsBound, IsDeclared, IsDefine, IsSpot, IsShown, IsStep, IsLoop, Privates, IsGuard, IsGuardThen, IsEnding, IsEnd, IsSimple, Stands, StandsFor}
 use Rattle.cdc_parse.specs.Words.{same_word}
 use Rattle.cdc_parse.specs.Operators.{sign_symbol, symbol}
 use Rattle.cdc_parse.specs.declared.operator.Sign.{Sign}
 use Rattle.cdc_parse.specs.declared.operator.Sign.TheVariants as g
-use Rattle.cdc_parse.proofs.Begins.{some, after_mark, word_at_word, word_at_name, after_word_word, after_word_other, after_word_name, name_at_name}
+use Rattle.cdc_tree.proofs.Options.{some}
+use Rattle.cdc_parse.proofs.Begins.{after_mark, word_at_word, word_at_name, after_word_word, after_word_other, after_word_name, name_at_name}
 use Rattle.cdc_parse.proofs.Lists.{IsAgain, more_again, separated_again, closed_again}
 use Rattle.cdc_parse.proofs.Deep.{Low, low_later, low_shallow}
 use Rattle.cdc_parse.proofs.Again.{Stops, stops_close, stops_comma, stops_colon, stops_assign, stops_end, stops_word, comma_close, read_again}
+use Rattle.cdc_parse.proofs.FormSound.{placed}
 
 -- ---- what may follow an item
 
@@ -428,21 +432,7 @@ simple_again (FPrint items) ts h low =
     ap simple_at h.4 ∙ simple_word w.Print h.0 (mark h.1 q.Star ∷ h.2) ∙ print_again items h.1 h.2 h.3 (low_later (word h.0 w.Print ∷ (mark h.1 q.Star ∷ [])) h.2 (subst Low h.4 low))
 simple_again (FRead targets) ts h low =
     ap simple_at h.4 ∙ simple_word w.Read h.0 (mark h.1 q.Star ∷ h.2) ∙ read_back targets h.1 h.2 h.3 (low_later (word h.0 w.Read ∷ (mark h.1 q.Star ∷ [])) h.2 (subst Low h.4 low))
-simple_again (FProgram n) ts h low = absurd h
-simple_again (FSubroutine n ds) ts h low = absurd h
-simple_again (FEnd x) ts h low = absurd h
-simple_again FImplicitNone ts h low = absurd h
-simple_again (FInteger ds) ts h low = absurd h
-simple_again (FParameter ds) ts h low = absurd h
-simple_again (FIfThen c) ts h low = absurd h
-simple_again (FElseIf c) ts h low = absurd h
-simple_again FElse ts h low = absurd h
-simple_again FEndIf ts h low = absurd h
-simple_again (FLogicalIf c p f) ts h low = absurd h
-simple_again (FDo l) ts h low = absurd h
-simple_again FEndDo ts h low = absurd h
-simple_again (FDoall l ns) ts h low = absurd h
-simple_again FEndDoall ts h low = absurd h
+simple_again x ts h low = absurd h
 
 -- no simple statement begins with THEN
 simple_then : (f : PForm) (ts : List Lexed) → IsSimple f ts → after_word w.Then ts ≡ None
@@ -453,21 +443,7 @@ simple_then (FAssign target value) ts h =
 simple_then (FCall n actuals) ts h = ap (after_word w.Then) h.4 ∙ after_word_other w.Call w.Then h.0 (name n ∷ h.1) refl
 simple_then (FPrint items) ts h = ap (after_word w.Then) h.4 ∙ after_word_other w.Print w.Then h.0 (mark h.1 q.Star ∷ h.2) refl
 simple_then (FRead targets) ts h = ap (after_word w.Then) h.4 ∙ after_word_other w.Read w.Then h.0 (mark h.1 q.Star ∷ h.2) refl
-simple_then (FProgram n) ts h = absurd h
-simple_then (FSubroutine n ds) ts h = absurd h
-simple_then (FEnd x) ts h = absurd h
-simple_then FImplicitNone ts h = absurd h
-simple_then (FInteger ds) ts h = absurd h
-simple_then (FParameter ds) ts h = absurd h
-simple_then (FIfThen c) ts h = absurd h
-simple_then (FElseIf c) ts h = absurd h
-simple_then FElse ts h = absurd h
-simple_then FEndIf ts h = absurd h
-simple_then (FLogicalIf c p f) ts h = absurd h
-simple_then (FDo l) ts h = absurd h
-simple_then FEndDo ts h = absurd h
-simple_then (FDoall l ns) ts h = absurd h
-simple_then FEndDoall ts h = absurd h
+simple_then x ts h = absurd h
 
 -- a simple statement is read as itself where a whole line may stand
 simple_form : (f : PForm) (ts : List Lexed) → IsSimple f ts → form_at ts ≡ simple_at ts
@@ -478,21 +454,7 @@ simple_form (FAssign target value) ts h =
 simple_form (FCall n actuals) ts h = ap (λ (o : Option (Word × List Lexed)). maybe o (λ y. form_by y.0 y.1 ts) (simple_at ts)) (ap word_at h.4 ∙ word_at_word w.Call h.0 (name n ∷ h.1))
 simple_form (FPrint items) ts h = ap (λ (o : Option (Word × List Lexed)). maybe o (λ y. form_by y.0 y.1 ts) (simple_at ts)) (ap word_at h.4 ∙ word_at_word w.Print h.0 (mark h.1 q.Star ∷ h.2))
 simple_form (FRead targets) ts h = ap (λ (o : Option (Word × List Lexed)). maybe o (λ y. form_by y.0 y.1 ts) (simple_at ts)) (ap word_at h.4 ∙ word_at_word w.Read h.0 (mark h.1 q.Star ∷ h.2))
-simple_form (FProgram n) ts h = absurd h
-simple_form (FSubroutine n ds) ts h = absurd h
-simple_form (FEnd x) ts h = absurd h
-simple_form FImplicitNone ts h = absurd h
-simple_form (FInteger ds) ts h = absurd h
-simple_form (FParameter ds) ts h = absurd h
-simple_form (FIfThen c) ts h = absurd h
-simple_form (FElseIf c) ts h = absurd h
-simple_form FElse ts h = absurd h
-simple_form FEndIf ts h = absurd h
-simple_form (FLogicalIf c p f) ts h = absurd h
-simple_form (FDo l) ts h = absurd h
-simple_form FEndDo ts h = absurd h
-simple_form (FDoall l ns) ts h = absurd h
-simple_form FEndDoall ts h = absurd h
+simple_form x ts h = absurd h
 
 -- ---- conditions
 
@@ -595,6 +557,6 @@ form_again (FPrint i) ts h low = simple_form (FPrint i) ts h ∙ simple_again (F
 form_again (FRead i) ts h low = simple_form (FRead i) ts h ∙ simple_again (FRead i) ts h low
 
 -- the statement that stands for the tokens is read
-pub statement_again : (s : Place × PForm) (ts : List Lexed) → StandsFor s ts → Low ts → statement_at ts ≡ Some s
-statement_again (p, f) ts h low =
-    ap (λ (o : Option Place). o >>= λ p. form_at ts >>= λ f. some (p, f)) h.1 ∙ ap (λ (o : Option PForm). o >>= λ f. some (p, f)) (form_again f ts h.0 low)
+pub statement_again : (s : PStatement) (ts : List Lexed) → StandsFor s ts → Low ts → statement_at ts ≡ Some s
+statement_again s ts h low =
+    ap (λ (o : Option Place). o >>= λ p. form_at ts >>= λ f. some (placed p f)) h.1 ∙ ap (λ (o : Option PForm). o >>= λ f. some (placed s.place f)) (form_again s.form ts h.0 low)

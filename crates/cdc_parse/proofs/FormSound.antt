@@ -6,20 +6,23 @@ use Rattle.cdc_token.specs.declared.token.Lexed.{Lexed}
 use Rattle.cdc_token.specs.declared.token.Token.{Token}
 use Rattle.cdc_token.specs.declared.token.Token.TheVariants.{Name, Number, Text, Symbol}
 use Rattle.cdc_token.specs.declared.token.Symbol.TheVariants as q
-use Rattle.cdc_parse.specs.declared.tree.Named.{Named}
-use Rattle.cdc_parse.specs.declared.form.Ending.TheVariants as e
+use Rattle.cdc_tree.specs.declared.tree.Named.{Named}
+use Rattle.cdc_tree.specs.declared.form.Ending.TheVariants as e
 use Rattle.cdc_parse.specs.declared.kind.Kind.{Kind}
 use Rattle.cdc_parse.specs.declared.kind.Kind.TheVariants as k
 use Rattle.cdc_parse.specs.declared.word.Word.{Word}
 use Rattle.cdc_parse.specs.declared.word.Word.TheVariants as w
-use Rattle.cdc_parse.specs.Tokens.{at, mark, word, name, ◌>>=◌, maybe, after, word_at, after_word, name_at, finished}
-use Rattle.cdc_parse.specs.Plain.{Plain}
+use Rattle.cdc_tree.specs.Options.{◌>>=◌, maybe}
+use Rattle.cdc_parse.specs.Tokens.{at, mark, word, name, after, word_at, after_word, name_at, finished}
+use Rattle.cdc_tree.specs.Plain.{Plain}
 use Rattle.cdc_parse.specs.Kinds.{kind}
 use Rattle.cdc_parse.specs.Reading.{Gets, more, separated, closed, read}
 use Rattle.cdc_parse.specs.Written.{text, IsExpression, IsCondition}
-use Rattle.cdc_parse.specs.Forms.{PSpot, PShown, PText, PValue, PForm, FProgram, FSubroutine, FEnd, FImplicitNone, FInteger, FParameter, FAssign, FIfThen, FElseIf, FElse, FEndIf, FLogicalIf, FDo, FEndDo, FDoall, FEndDoall, FCall, FPrint, FRead, of_kind, whole, number_at, condition_at, in_parens, subscripted, place_at, without, program_at, subroutine_at, last_name, end_by, end_at, implicit_at, bound_at, declared_at, define_at, spot_at, parameter_at, items_at, integer_at, assign_at, guard_at, step_at, loop_at, do_at, privates_at, doall_at, call_at, valued, shown_as, shown_at, print_at, read_at, simple_by, simple_at, logical, if_at, else_if_at, else_at, alone, form_by, form_at, statement_at}
+use Rattle.cdc_tree.specs.Forms.{PSpot, PShown, PText, PValue, PForm, FProgram, FSubroutine, FEnd, FImplicitNone, FInteger, FParameter, FAssign, FIfThen, FElseIf, FElse, FEndIf, FLogicalIf, FDo, FEndDo, FDoall, FEndDoall, FCall, FPrint, FRead, PStatement}
+use Rattle.cdc_parse.specs.Forms.{of_kind, whole, number_at, condition_at, in_parens, subscripted, place_at, without, program_at, subroutine_at, last_name, end_by, end_at, implicit_at, bound_at, declared_at, define_at, spot_at, parameter_at, items_at, integer_at, assign_at, guard_at, step_at, loop_at, do_at, privates_at, doall_at, call_at, valued, shown_as, shown_at, print_at, read_at, simple_by, simple_at, logical, if_at, else_if_at, else_at, alone, form_by, form_at, statement_at}
 use Rattle.cdc_parse.specs.Stands.{Writes, Commas, Separated, Bracketed, Subscripted, InParens, IsNamed, LastName, IsBound, IsDeclared, IsDefine, IsSpot, IsShown, IsStep, IsLoop, Privates, IsGuard, IsGuardThen, IsEnd, IsSimple, Stands, StandsFor}
-use Rattle.cdc_parse.proofs.Begins.{some, some_is, bind_some, maybe_is, after_is, word_at_is, after_word_is, name_at_is}
+use Rattle.cdc_tree.proofs.Options.{some, some_is, bind_some, maybe_is}
+use Rattle.cdc_parse.proofs.Begins.{after_is, word_at_is, after_word_is, name_at_is}
 use Rattle.cdc_parse.proofs.Lists.{Front, IsSound, more_sound, separated_sound, closed_sound}
 use Rattle.cdc_parse.proofs.Sound.{read_sound}
 
@@ -41,13 +44,11 @@ name_sound ts x e = let a = name_at_is ts x.1 x.0 e in record { tokens = name x.
 
 number_kind : (c : Kind) (x y : Plain × List Lexed) → of_kind k.Number x c ≡ Some y → (c ≡ k.Number) × (x ≡ y)
 number_kind k.Number x y e = (refl, some_is x y e)
-number_kind k.Truth x y e = absurd cc
-number_kind k.Neither x y e = absurd cc
+number_kind z x y e = absurd cc
 
 truth_kind : (c : Kind) (x y : Plain × List Lexed) → of_kind k.Truth x c ≡ Some y → (c ≡ k.Truth) × (x ≡ y)
 truth_kind k.Truth x y e = (refl, some_is x y e)
-truth_kind k.Number x y e = absurd cc
-truth_kind k.Neither x y e = absurd cc
+truth_kind z x y e = absurd cc
 
 number_sound : IsSound IsExpression number_at
 unfolding number_at whole
@@ -292,26 +293,7 @@ end_word_sound w.Subroutine p r ts f h =
 end_word_sound w.If p r ts f h = end_two w.If w.EndIf FEndIf p r ts f (λ us i. i) h
 end_word_sound w.Do p r ts f h = end_two w.Do w.EndDo FEndDo p r ts f (λ us i. i) h
 end_word_sound w.Doall p r ts f h = end_two w.Doall w.EndDoall FEndDoall p r ts f (λ us i. i) h
-end_word_sound w.End p r ts f h = absurd cc
-end_word_sound w.EndDo p r ts f h = absurd cc
-end_word_sound w.EndIf p r ts f h = absurd cc
-end_word_sound w.EndDoall p r ts f h = absurd cc
-end_word_sound w.Integer p r ts f h = absurd cc
-end_word_sound w.Parameter p r ts f h = absurd cc
-end_word_sound w.Implicit p r ts f h = absurd cc
-end_word_sound w.Nothing p r ts f h = absurd cc
-end_word_sound w.Private p r ts f h = absurd cc
-end_word_sound w.Then p r ts f h = absurd cc
-end_word_sound w.Else p r ts f h = absurd cc
-end_word_sound w.ElseIf p r ts f h = absurd cc
-end_word_sound w.Call p r ts f h = absurd cc
-end_word_sound w.Read p r ts f h = absurd cc
-end_word_sound w.Print p r ts f h = absurd cc
-end_word_sound w.Abs p r ts f h = absurd cc
-end_word_sound w.Min p r ts f h = absurd cc
-end_word_sound w.Max p r ts f h = absurd cc
-end_word_sound w.Mod p r ts f h = absurd cc
-end_word_sound w.Common p r ts f h = absurd cc
+end_word_sound x p r ts f h = absurd cc
 
 end_sound : (p : Place) (ts : List Lexed) (f : PForm) → end_at ts ≡ Some f → Stands f (word p w.End ∷ ts)
 end_sound p ts f h =
@@ -431,28 +413,7 @@ simple_word_sound : (x : Word) (p : Place) (ts : List Lexed) (f : PForm) → sim
 simple_word_sound w.Call p ts f h = call_sound p ts f h
 simple_word_sound w.Print p ts f h = print_sound p ts f h
 simple_word_sound w.Read p ts f h = read_stands p ts f h
-simple_word_sound w.Program p ts f h = absurd cc
-simple_word_sound w.Subroutine p ts f h = absurd cc
-simple_word_sound w.End p ts f h = absurd cc
-simple_word_sound w.EndDo p ts f h = absurd cc
-simple_word_sound w.EndIf p ts f h = absurd cc
-simple_word_sound w.EndDoall p ts f h = absurd cc
-simple_word_sound w.Integer p ts f h = absurd cc
-simple_word_sound w.Parameter p ts f h = absurd cc
-simple_word_sound w.Implicit p ts f h = absurd cc
-simple_word_sound w.Nothing p ts f h = absurd cc
-simple_word_sound w.Do p ts f h = absurd cc
-simple_word_sound w.Doall p ts f h = absurd cc
-simple_word_sound w.Private p ts f h = absurd cc
-simple_word_sound w.If p ts f h = absurd cc
-simple_word_sound w.Then p ts f h = absurd cc
-simple_word_sound w.Else p ts f h = absurd cc
-simple_word_sound w.ElseIf p ts f h = absurd cc
-simple_word_sound w.Abs p ts f h = absurd cc
-simple_word_sound w.Min p ts f h = absurd cc
-simple_word_sound w.Max p ts f h = absurd cc
-simple_word_sound w.Mod p ts f h = absurd cc
-simple_word_sound w.Common p ts f h = absurd cc
+simple_word_sound x p ts f h = absurd cc
 
 pub simple_sound : (ts : List Lexed) (f : PForm) → simple_at ts ≡ Some f → IsSimple f ts
 unfolding simple_at
@@ -469,21 +430,7 @@ simple_stands (FAssign s v) ts h = h
 simple_stands (FCall n a) ts h = h
 simple_stands (FPrint i) ts h = h
 simple_stands (FRead i) ts h = h
-simple_stands (FProgram n) ts h = absurd h
-simple_stands (FSubroutine n ds) ts h = absurd h
-simple_stands (FEnd x) ts h = absurd h
-simple_stands FImplicitNone ts h = absurd h
-simple_stands (FInteger ds) ts h = absurd h
-simple_stands (FParameter ds) ts h = absurd h
-simple_stands (FIfThen c) ts h = absurd h
-simple_stands (FElseIf c) ts h = absurd h
-simple_stands FElse ts h = absurd h
-simple_stands FEndIf ts h = absurd h
-simple_stands (FLogicalIf c p f) ts h = absurd h
-simple_stands (FDo l) ts h = absurd h
-simple_stands FEndDo ts h = absurd h
-simple_stands (FDoall l ns) ts h = absurd h
-simple_stands FEndDoall ts h = absurd h
+simple_stands x ts h = absurd h
 
 -- a condition in parentheses, and THEN
 then_sound : (ts : List Lexed) (c : Plain × List Lexed) (us : List Lexed) → Front IsGuard ts c → after_word w.Then c.1 ≡ Some us → us ≡ [] → IsGuardThen c.0 ts
@@ -584,18 +531,7 @@ word_sound w.Else p ts f h = else_sound p ts f h
 word_sound w.ElseIf p ts f h =
     let x = else_if_sound ts f h in
     stands_now (word p w.ElseIf ∷ ts) (FElseIf x.condition) f x.is (p, ts, x.wrote, inl refl)
-word_sound w.Call p ts f h = simple_stands f (word p w.Call ∷ ts) (simple_sound (word p w.Call ∷ ts) f h)
-word_sound w.Read p ts f h = simple_stands f (word p w.Read ∷ ts) (simple_sound (word p w.Read ∷ ts) f h)
-word_sound w.Print p ts f h = simple_stands f (word p w.Print ∷ ts) (simple_sound (word p w.Print ∷ ts) f h)
-word_sound w.Parameter p ts f h = simple_stands f (word p w.Parameter ∷ ts) (simple_sound (word p w.Parameter ∷ ts) f h)
-word_sound w.Nothing p ts f h = simple_stands f (word p w.Nothing ∷ ts) (simple_sound (word p w.Nothing ∷ ts) f h)
-word_sound w.Private p ts f h = simple_stands f (word p w.Private ∷ ts) (simple_sound (word p w.Private ∷ ts) f h)
-word_sound w.Then p ts f h = simple_stands f (word p w.Then ∷ ts) (simple_sound (word p w.Then ∷ ts) f h)
-word_sound w.Abs p ts f h = simple_stands f (word p w.Abs ∷ ts) (simple_sound (word p w.Abs ∷ ts) f h)
-word_sound w.Min p ts f h = simple_stands f (word p w.Min ∷ ts) (simple_sound (word p w.Min ∷ ts) f h)
-word_sound w.Max p ts f h = simple_stands f (word p w.Max ∷ ts) (simple_sound (word p w.Max ∷ ts) f h)
-word_sound w.Mod p ts f h = simple_stands f (word p w.Mod ∷ ts) (simple_sound (word p w.Mod ∷ ts) f h)
-word_sound w.Common p ts f h = simple_stands f (word p w.Common ∷ ts) (simple_sound (word p w.Common ∷ ts) f h)
+word_sound x p ts f h = simple_stands f (word p x ∷ ts) (simple_sound (word p x ∷ ts) f h)
 
 form_sound : (ts : List Lexed) (f : PForm) → form_at ts ≡ Some f → Stands f ts
 unfolding form_at
@@ -608,9 +544,12 @@ form_sound ts f h =
           subst (λ (y : List Lexed). Stands f y) (sym a.1) (word_sound hit.0.0 a.0 hit.0.1 f e2)
     ]
 
+abbrev pub placed : Place → PForm → PStatement
+placed p f = record { place = p; form = f }
+
 -- what is read as a statement stands for the tokens
-pub statement_sound : (ts : List Lexed) (s : Place × PForm) → statement_at ts ≡ Some s → StandsFor s ts
+pub statement_sound : (ts : List Lexed) (s : PStatement) → statement_at ts ≡ Some s → StandsFor s ts
 statement_sound ts s h =
-    let p = bind_some (place_at ts) (λ p. form_at ts >>= λ f. Some (p, f)) s h in
-    let f = bind_some (form_at ts) (λ f. Some (p.0, f)) s p.2 in
-    subst (λ (y : Place × PForm). StandsFor y ts) (some_is (p.0, f.0) s f.2) (form_sound ts f.0 f.1, p.1)
+    let p = bind_some (place_at ts) (λ p. form_at ts >>= λ f. some (placed p f)) s h in
+    let f = bind_some (form_at ts) (λ f. some (placed p.0 f)) s p.2 in
+    subst (λ (y : PStatement). StandsFor y ts) (some_is (placed p.0 f.0) s f.2) (form_sound ts f.0 f.1, p.1)

@@ -8,8 +8,4 @@ pub mod Again
 pub mod FormSound
 pub mod FormAgain
 pub mod LineLaws
-pub mod Puts
-pub mod Grown
-pub mod Taken
-pub mod UnitLaws
 pub mod Derived

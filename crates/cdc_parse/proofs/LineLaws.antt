@@ -4,15 +4,17 @@ use Rattle.std.proofs.lemmas.List.{append-nil, take_all}
 use Rattle.cdc_base.specs.declared.place.Place.{Place}
 use Rattle.cdc_token.specs.declared.token.Lexed.{Lexed}
 use Rattle.cdc_token.specs.declared.token.Line.{Line}
-use Rattle.cdc_parse.specs.declared.form.Statement.{Statement}
-use Rattle.cdc_parse.specs.declared.refusal.ParseRefusal.{ParseRefusal}
-use Rattle.cdc_parse.specs.declared.refusal.ParseRefusal.TheVariants.{NotAStatement, Depth, Nesting, Memory}
+use Rattle.cdc_tree.specs.declared.form.Statement.{Statement}
+use Rattle.cdc_tree.specs.declared.refusal.ParseRefusal.{ParseRefusal}
+use Rattle.cdc_tree.specs.declared.refusal.ParseRefusal.TheVariants.{NotAStatement, Depth, Nesting, Memory}
 use Rattle.cdc_parse.specs.Depth.{opened, deepest, IsDeep}
-use Rattle.cdc_parse.specs.Forms.{PForm, statement, statement_at}
+use Rattle.cdc_tree.specs.Forms.{statement, PStatement}
+use Rattle.cdc_parse.specs.Forms.{statement_at}
 use Rattle.cdc_parse.specs.Stands.{StandsFor}
-use Rattle.cdc_parse.specs.Units.{EachOne, InOrder}
-use Rattle.cdc_parse.specs.Lines.{Each, Ascend, IsNumbered, IsWithin, HasNone, IsGood, StandAll, SomeLine, IsDeepAt, AreStatements, IsStatement, IsForemost}
-use Rattle.cdc_parse.proofs.Begins.{some, some_is}
+use Rattle.cdc_tree.specs.Order.{Each, InOrder}
+use Rattle.cdc_parse.specs.Lines.{Ascend, IsNumbered, IsWithin, HasNone, IsGood, StandAll, SomeLine, IsDeepAt, AreStatements, IsStatement, IsForemost}
+use Rattle.cdc_tree.proofs.Options.{some, some_is}
+use Rattle.cdc_tree.proofs.Order.{each_append, each_map, ascending_after}
 use Rattle.cdc_parse.proofs.Deep.{deepest-least}
 use Rattle.cdc_parse.proofs.FormSound.{statement_sound}
 use Rattle.cdc_parse.proofs.FormAgain.{statement_again}
@@ -49,29 +51,17 @@ tells_deep rest whole m lt tells = tells.deep (omega (arith, deepest-least m res
 
 -- ---- lists of lines
 
-each_append : (P : Line → Type 0) (xs ys : List Line) → Each P xs → Each P ys → Each P (xs ++ ys)
-each_append P [] ys a b = b
-each_append P (x ∷ xs) ys a b = (a.0, each_append P xs ys a.1 b)
-
-each_map : (P Q : Line → Type 0) → ((l : Line) → P l → Q l) → (xs : List Line) → Each P xs → Each Q xs
-each_map P Q f [] a = tt
-each_map P Q f (x ∷ xs) a = (f x a.0, each_map P Q f xs a.1)
-
-stand_good : (ss : List (Place × PForm)) (ls : List Line) → StandAll ss ls → Each IsGood ls
+stand_good : (ss : List PStatement) (ls : List Line) → StandAll ss ls → Each IsGood ls
 stand_good [] [] h = tt
 stand_good [] (l ∷ ls) h = absurd h
 stand_good (s ∷ ss) [] h = absurd h
-stand_good (s ∷ ss) (l ∷ ls) h = (record { within = h.0; place = s.0; form = s.1; stands = h.1 }, stand_good ss ls h.2)
+stand_good (s ∷ ss) (l ∷ ls) h = (record { within = h.0; statement = s; stands = h.1 }, stand_good ss ls h.2)
 
-stand_put : (ss : List (Place × PForm)) (ls : List Line) (s : Place × PForm) (l : Line) → StandAll ss ls → IsWithin l.tokens → StandsFor s l.tokens → StandAll (ss ++ (s ∷ [])) (ls ++ (l ∷ []))
+stand_put : (ss : List PStatement) (ls : List Line) (s : PStatement) (l : Line) → StandAll ss ls → IsWithin l.tokens → StandsFor s l.tokens → StandAll (ss ++ (s ∷ [])) (ls ++ (l ∷ []))
 stand_put [] [] s l h w st = (w, st, tt)
 stand_put [] (x ∷ ls) s l h w st = absurd h
 stand_put (y ∷ ss) [] s l h w st = absurd h
 stand_put (y ∷ ss) (x ∷ ls) s l h w st = (h.0, h.1, stand_put ss ls s l h.2 w st)
-
-ascend_later : (before : List Line) (line : Line) (after : List Line) → Ascend (before ++ (line ∷ after)) → Each (λ m. line.line ≤ m.line) after
-ascend_later [] line after h = h.0
-ascend_later (x ∷ before) line after h = ascend_later before line after h.1
 
 -- each line with a lesser number than this one is good
 least_good : (before : List Line) (line : Line) (after : List Line) (n : ℕ) → n ≡ line.line → Each IsGood before → Each (λ m. line.line ≤ m.line) after → Each (λ l. l.line < n → IsGood l) (before ++ (line ∷ after))
@@ -94,7 +84,7 @@ pub read_more : (lines rest after : List Line) (line : Line) (found now : List S
 read_more lines rest after line found now s r e made h = record {
   before = r.before ++ (line ∷ []);
   parts = r.parts ∙ ap (λ (z : List Line). r.before ++ z) e ∙ sym (append_assoc r.before (line ∷ []) after);
-  stand = subst (λ (z : List (Place × PForm)). StandAll z (r.before ++ (line ∷ []))) (sym made) (stand_put (map statement found) r.before (statement s) line r.stand h.0 h.1);
+  stand = subst (λ (z : List PStatement). StandAll z (r.before ++ (line ∷ []))) (sym made) (stand_put (map statement found) r.before (statement s) line r.stand h.0 h.1);
 }
 
 pub read_all : (lines rest : List Line) (found : List Statement) → Read lines rest found → rest ≡ [] → StandAll (map statement found) lines
@@ -113,7 +103,7 @@ some_later lines before line after n P e s = record {
 pub read_refused : (lines rest after : List Line) (line : Line) (found : List Statement) (r first : ParseRefusal) → Read lines rest found → rest ≡ line ∷ after → Ascend lines → IsStatement line (Err r) → IsForemost after r first → AreStatements lines (Err first)
 read_refused lines rest after line found (NotAStatement n) (NotAStatement m) read e asc h f =
     let parts : lines ≡ read.before ++ (line ∷ after) = read.parts ∙ ap (λ (z : List Line). read.before ++ z) e in
-    let later = ascend_later read.before line after (subst Ascend parts asc) in
+    let later = ascending_after (λ l. l.line) read.before line after (subst Ascend parts asc) in
     let good = stand_good (map statement found) read.before read.stand in
     let number : m ≡ line.line = f.0 ∙ h.0 in
     record {
@@ -126,7 +116,7 @@ read_refused lines rest after line found (NotAStatement n) (NotAStatement m) rea
     }
 read_refused lines rest after line found (NotAStatement n) (Depth m) read e asc h f =
     let parts : lines ≡ read.before ++ (line ∷ after) = read.parts ∙ ap (λ (z : List Line). read.before ++ z) e in
-    let later = ascend_later read.before line after (subst Ascend parts asc) in
+    let later = ascending_after (λ l. l.line) read.before line after (subst Ascend parts asc) in
     let good = stand_good (map statement found) read.before read.stand in
     record {
       found = some_later lines read.before line after m IsDeep parts (subst (λ (k : ℕ). SomeLine after k IsDeep) (sym f.0) f.1);
@@ -136,7 +126,7 @@ read_refused lines rest after line found (NotAStatement n) (Nesting m) read e as
 read_refused lines rest after line found (NotAStatement n) Memory read e asc h f = absurd f
 read_refused lines rest after line found (Depth n) first read e asc h f =
     let parts : lines ≡ read.before ++ (line ∷ after) = read.parts ∙ ap (λ (z : List Line). read.before ++ z) e in
-    let later = ascend_later read.before line after (subst Ascend parts asc) in
+    let later = ascending_after (λ l. l.line) read.before line after (subst Ascend parts asc) in
     let good = stand_good (map statement found) read.before read.stand in
     let made : IsDeepAt lines n = record {
       found = record { before = read.before; line = line; after = after; parts = parts; number_is = sym h.0; holds = h.1 };
@@ -177,32 +167,32 @@ none_stands ts within e s h =
     absurd cc
 
 -- the line's tokens, as the code sees them
-pub line_good : (ts us : List Lexed) (s : Place × PForm) → us ≡ ts → IsWithin us → statement_at us ≡ Some s → IsWithin ts × StandsFor s ts
+pub line_good : (ts us : List Lexed) (s : PStatement) → us ≡ ts → IsWithin us → statement_at us ≡ Some s → IsWithin ts × StandsFor s ts
 line_good ts us s e within found = (subst IsWithin e within, subst (StandsFor s) e (statement_sound us s found))
 
 pub line_none : (ts us : List Lexed) → us ≡ ts → IsWithin us → statement_at us ≡ None → IsWithin ts × HasNone ts
 line_none ts us e within none = (subst IsWithin e within, subst HasNone e (none_stands us within none))
 
 -- no line has two statements
-pub one_statement : (ts : List Lexed) (s t : Place × PForm) → deepest 0 ts ≤ 64 → StandsFor s ts → StandsFor t ts → s ≡ t
+pub one_statement : (ts : List Lexed) (s t : PStatement) → deepest 0 ts ≤ 64 → StandsFor s ts → StandsFor t ts → s ≡ t
 one_statement ts s t low hs ht = some_is s t (sym (statement_again s ts hs low) ∙ statement_again t ts ht low)
 
 -- ---- statements are in the order of their lines
 
-same_line : (s : Statement) (l : Line) → StandsFor (statement s) l.tokens → IsNumbered l → s.place.line ≡ l.line
+same_line : (s : PStatement) (l : Line) → StandsFor s l.tokens → IsNumbered l → s.place.line ≡ l.line
 same_line s l h n = ap (λ (p : Place). p.line) (some_is s.place n.place (sym h.1 ∙ n.first)) ∙ n.number_is
 
-later_lines : (k : ℕ) (ss : List Statement) (ls : List Line) → StandAll (map statement ss) ls → Each IsNumbered ls → Each (λ m. k ≤ m.line) ls → EachOne (λ t. k ≤ t.place.line) ss
+later_lines : (k : ℕ) (ss : List PStatement) (ls : List Line) → StandAll ss ls → Each IsNumbered ls → Each (λ m. k ≤ m.line) ls → Each (λ t. k ≤ t.place.line) ss
 later_lines k [] ls h n e = tt
 later_lines k (s ∷ ss) [] h n e = absurd h
 later_lines k (s ∷ ss) (l ∷ ls) h n e = (omega (arith, e.0, same_line s l h.1 n.0), later_lines k ss ls h.2 n.1 e.1)
 
-pub in_order : (ss : List Statement) (ls : List Line) → StandAll (map statement ss) ls → Ascend ls → Each IsNumbered ls → InOrder ss
+pub in_order : (ss : List PStatement) (ls : List Line) → StandAll ss ls → Ascend ls → Each IsNumbered ls → InOrder ss
 in_order [] ls h a n = tt
 in_order (s ∷ ss) [] h a n = absurd h
 in_order (s ∷ ss) (l ∷ ls) h a n =
     (later_lines s.place.line ss ls h.2 n.1 (each_map (λ m. l.line ≤ m.line) (λ m. s.place.line ≤ m.line) (λ m le. omega (arith, le, same_line s l h.1 n.0)) ls a.0), in_order ss ls h.2 a.1 n.1)
 
-pub ok_in_order : (r : Result (List Statement) ParseRefusal) (ls : List Line) → AreStatements ls r → Ascend ls → Each IsNumbered ls → IfOk r InOrder
-ok_in_order (Ok found) ls h a n = in_order found ls h a n
+pub ok_in_order : (r : Result (List Statement) ParseRefusal) (ls : List Line) → AreStatements ls r → Ascend ls → Each IsNumbered ls → IfOk r (λ ss. InOrder (map statement ss))
+ok_in_order (Ok found) ls h a n = in_order (map statement found) ls h a n
 ok_in_order (Err e) ls h a n = tt

@@ -4,10 +4,12 @@ use Rattle.std.proofs.lemmas.List.{append-nil}
 use Rattle.cdc_base.specs.declared.place.Place.{Place}
 use Rattle.cdc_token.specs.declared.token.Lexed.{Lexed}
 use Rattle.cdc_token.specs.declared.token.Symbol.TheVariants as q
-use Rattle.cdc_parse.specs.Tokens.{mark, ◌>>=◌, maybe, after}
+use Rattle.cdc_tree.specs.Options.{◌>>=◌, maybe}
+use Rattle.cdc_parse.specs.Tokens.{mark, after}
 use Rattle.cdc_parse.specs.Reading.{Gets, more, separated, closed}
 use Rattle.cdc_parse.specs.Stands.{Writes, Commas, Separated}
-use Rattle.cdc_parse.proofs.Begins.{some, some_is, bind_some, maybe_is, after_is, after_mark}
+use Rattle.cdc_tree.proofs.Options.{some, some_is, bind_some, maybe_is}
+use Rattle.cdc_parse.proofs.Begins.{after_is, after_mark}
 
 -- what is got from the front of the tokens is written so
 pub record Front {A : Type 0} (item : Writes A) (ts : List Lexed) (x : A × List Lexed) : Type 0 where

@@ -4,9 +4,10 @@ use Rattle.std.proofs.lemmas.List.{map-append}
 use Rattle.cdc_prog.specs.declared.expr.BinOp.{BinOp}
 use Rattle.cdc_token.specs.declared.token.Lexed.{Lexed}
 use Rattle.cdc_token.specs.declared.token.Symbol.TheVariants as q
-use Rattle.cdc_parse.specs.Tokens.{◌>>=◌, after}
+use Rattle.cdc_tree.specs.Options.{◌>>=◌}
+use Rattle.cdc_parse.specs.Tokens.{after}
 use Rattle.cdc_parse.specs.Operators.{operator_at}
-use Rattle.cdc_parse.specs.Plain.{Plain, PBin}
+use Rattle.cdc_tree.specs.Plain.{Plain, PBin}
 use Rattle.cdc_parse.specs.Reading.{Gets, chain, first, read, more}
 
 pub chain_starts : (d h r : ℕ) (ts : List Lexed) (x : Plain × List Lexed) (n : ℕ) → h ≡ suc r → n ≡ length x.1 → first (read d r) r ts ≡ Some x → chain (read d r) r n x.0 x.1 ≡ read d h ts

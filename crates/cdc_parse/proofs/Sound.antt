@@ -5,17 +5,19 @@ use Rattle.cdc_token.specs.declared.token.Lexed.{Lexed}
 use Rattle.cdc_token.specs.declared.token.Token.{Token}
 use Rattle.cdc_token.specs.declared.token.Token.TheVariants.{Name, Number, Text, Symbol}
 use Rattle.cdc_token.specs.declared.token.Symbol.TheVariants as q
-use Rattle.cdc_parse.specs.declared.tree.Named.{Named}
+use Rattle.cdc_tree.specs.declared.tree.Named.{Named}
 use Rattle.cdc_parse.specs.declared.word.Word.{Word}
 use Rattle.cdc_parse.specs.Words.{word_named}
-use Rattle.cdc_parse.specs.Tokens.{at, mark, word, name, IsName, ◌>>=◌, after}
+use Rattle.cdc_tree.specs.Options.{◌>>=◌}
+use Rattle.cdc_parse.specs.Tokens.{at, mark, word, name, IsName, after}
 use Rattle.cdc_parse.specs.Operators.{sign_symbol, sign_rank, symbol, rank, sign_at, operator_at}
-use Rattle.cdc_parse.specs.Plain.{Plain, PNumber, PName, PApply, PParen, PBin, PKnown, PMore, plains}
+use Rattle.cdc_tree.specs.Plain.{Plain, PNumber, PName, PApply, PParen, PBin, PKnown, PMore, plains}
 use Rattle.cdc_parse.specs.Reading.{Gets, separated, closed, signed, chain, first, tier, tiers, intrinsic_of, reference, known, named, paren, factor_of, factor_in, inside, read}
 use Rattle.cdc_parse.specs.Forms.{place_at}
 use Rattle.cdc_parse.specs.Written.{Written, WNumber, WName, WApply, WKnown, WParen, WUnary, WBinary, Rest, REnd, RMore, text, texts, meant, meants, Fits, FitsAll, intrinsic_word}
 use Rattle.cdc_parse.specs.Stands.{Commas, Separated}
-use Rattle.cdc_parse.proofs.Begins.{some, some_is, bind_some, maybe_is, after_is, sign_at_is, operator_at_is, intrinsic_is, word_named_is}
+use Rattle.cdc_tree.proofs.Options.{some, some_is, bind_some, maybe_is}
+use Rattle.cdc_parse.proofs.Begins.{after_is, sign_at_is, operator_at_is, intrinsic_is, word_named_is}
 use Rattle.cdc_parse.proofs.Lists.{IsSound, closed_sound, separated_sound}
 
 -- the tokens are a tree of this height

@@ -2,7 +2,7 @@
 use Rattle.std.specs.Prelude.{ℕ, suc, ◌-◌, ◌<◌, max, List, [], ◌∷◌, length, ◌⊎◌}
 use Rattle.cdc_token.specs.declared.token.Lexed.{Lexed}
 use Rattle.cdc_token.specs.declared.token.Token.{Token}
-use Rattle.cdc_token.specs.declared.token.Token.TheVariants.{Name, Number, Text, Symbol}
+use Rattle.cdc_token.specs.declared.token.Token.TheVariants.{Symbol}
 use Rattle.cdc_token.specs.declared.token.Symbol.{Symbol as Mark}
 use Rattle.cdc_token.specs.declared.token.Symbol.TheVariants as q
 
@@ -10,29 +10,11 @@ use Rattle.cdc_token.specs.declared.token.Symbol.TheVariants as q
 abbrev pub opened_by : Mark → ℕ → ℕ
 opened_by q.LeftParen n = suc n
 opened_by q.RightParen n = n - 1
-opened_by q.Comma n = n
-opened_by q.Colon n = n
-opened_by q.DoubleColon n = n
-opened_by q.Assign n = n
-opened_by q.Plus n = n
-opened_by q.Minus n = n
-opened_by q.Star n = n
-opened_by q.Slash n = n
-opened_by q.Eq n = n
-opened_by q.Ne n = n
-opened_by q.Lt n = n
-opened_by q.Le n = n
-opened_by q.Gt n = n
-opened_by q.Ge n = n
-opened_by q.Not n = n
-opened_by q.And n = n
-opened_by q.Or n = n
+opened_by other n = n
 
 abbrev pub opened : Token → ℕ → ℕ
 opened (Symbol s) n = opened_by s n
-opened (Name b) n = n
-opened (Number z) n = n
-opened (Text b) n = n
+opened other n = n
 
 -- the most that are open at one place, n being open before
 abbrev pub deepest : ℕ → List Lexed → ℕ

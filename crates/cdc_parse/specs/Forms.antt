@@ -1,136 +1,28 @@
--- Statements without pointers, and how one is read from a line's tokens.
-use Rattle.std.specs.Prelude.{ℕ, List, [], ◌∷◌, length, map, option_map, Option, Some, None}
+-- How a statement is read from a line's tokens.
+use Rattle.std.specs.Prelude.{List, [], ◌∷◌, length, Option, Some, None}
 use Rattle.cdc_base.specs.declared.place.Place.{Place}
 use Rattle.cdc_token.specs.declared.token.Lexed.{Lexed}
 use Rattle.cdc_token.specs.declared.token.Token.{Token}
-use Rattle.cdc_token.specs.declared.token.Token.TheVariants.{Name, Number, Text, Symbol}
+use Rattle.cdc_token.specs.declared.token.Token.TheVariants.{Text}
 use Rattle.cdc_token.specs.declared.token.Symbol.{Symbol as Mark}
 use Rattle.cdc_token.specs.declared.token.Symbol.TheVariants as q
-use Rattle.cdc_parse.specs.declared.tree.Named.{Named}
-use Rattle.cdc_parse.specs.declared.form.Bound.{Bound}
-use Rattle.cdc_parse.specs.declared.form.Declared.{Declared}
-use Rattle.cdc_parse.specs.declared.form.Define.{Define}
-use Rattle.cdc_parse.specs.declared.form.Spot.{Spot}
-use Rattle.cdc_parse.specs.declared.form.Loop.{Loop}
-use Rattle.cdc_parse.specs.declared.form.Shown.{Shown}
-use Rattle.cdc_parse.specs.declared.form.Shown.TheVariants as h
-use Rattle.cdc_parse.specs.declared.form.Ending.{Ending}
-use Rattle.cdc_parse.specs.declared.form.Ending.TheVariants as e
-use Rattle.cdc_parse.specs.declared.form.Form.{Form, fold-Form}
-use Rattle.cdc_parse.specs.declared.form.Form.TheOpen.{Form-F, Statement-F}
-use Rattle.cdc_parse.specs.declared.form.Statement.{Statement}
+use Rattle.cdc_tree.specs.declared.tree.Named.{Named}
+use Rattle.cdc_tree.specs.declared.form.Ending.TheVariants as e
 use Rattle.cdc_parse.specs.declared.kind.Kind.{Kind}
 use Rattle.cdc_parse.specs.declared.kind.Kind.TheVariants as k
 use Rattle.cdc_parse.specs.declared.word.Word.{Word}
 use Rattle.cdc_parse.specs.declared.word.Word.TheVariants as w
-use Rattle.cdc_parse.specs.Tokens.{◌>>=◌, maybe, after, word_at, after_word, name_at, finished}
-use Rattle.cdc_parse.specs.Plain.{Plain, plain}
+use Rattle.cdc_tree.specs.Options.{◌>>=◌, maybe}
+use Rattle.cdc_parse.specs.Tokens.{after, word_at, after_word, name_at, finished}
+use Rattle.cdc_tree.specs.Plain.{Plain}
+use Rattle.cdc_tree.specs.Forms.{PBound, PDeclared, PDefine, PSpot, PLoop, PShown, PText, PValue, PForm, FProgram, FSubroutine, FEnd, FImplicitNone, FInteger, FParameter, FAssign, FIfThen, FElseIf, FElse, FEndIf, FLogicalIf, FDo, FEndDo, FDoall, FEndDoall, FCall, FPrint, FRead, PStatement}
 use Rattle.cdc_parse.specs.Kinds.{kind}
 use Rattle.cdc_parse.specs.Reading.{Gets, more, separated, closed, read}
 
--- ---- statements without pointers
-
-abbrev pub PBound : Type 0
-PBound = Option Plain × Plain
-
-abbrev pub PDeclared : Type 0
-PDeclared = Named × List PBound
-
-abbrev pub PDefine : Type 0
-PDefine = Named × Plain
-
-abbrev pub PSpot : Type 0
-PSpot = Named × List Plain
-
--- variable, first value, limit, step
-abbrev pub PLoop : Type 0
-PLoop = Named × Plain × Plain × Option Plain
-
-pub data PShown : Type 0 where
-  PText : List ℕ → PShown
-  PValue : Plain → PShown
-
-pub data PForm : Type 0 where
-  FProgram : Named → PForm
-  FSubroutine : Named → List Named → PForm
-  FEnd : Ending → PForm
-  FImplicitNone : PForm
-  FInteger : List PDeclared → PForm
-  FParameter : List PDefine → PForm
-  FAssign : PSpot → Plain → PForm
-  FIfThen : Plain → PForm
-  FElseIf : Plain → PForm
-  FElse : PForm
-  FEndIf : PForm
-  FLogicalIf : Plain → Place → PForm → PForm
-  FDo : PLoop → PForm
-  FEndDo : PForm
-  FDoall : PLoop → List Named → PForm
-  FEndDoall : PForm
-  FCall : Named → List Plain → PForm
-  FPrint : List PShown → PForm
-  FRead : List PSpot → PForm
-
-abbrev pub bound : Bound → PBound
-bound b = (option_map plain b.low, plain b.high)
-
-abbrev pub declared : Declared → PDeclared
-declared d = (d.name, map bound d.bounds)
-
-abbrev pub define : Define → PDefine
-define d = (d.name, plain d.value)
-
-abbrev pub spot : Spot → PSpot
-spot s = (s.name, map plain s.subs)
-
-abbrev pub loop : Loop → PLoop
-loop l = (l.var, plain l.from, plain l.to, option_map plain l.by)
-
-abbrev pub shown : Shown → PShown
-shown (h.Text b) = PText b
-shown (h.Value t) = PValue (plain t)
-
-abbrev pub form_node : Form-F PForm (Place × PForm) → PForm
-form_node (Form-F.Program n) = FProgram n
-form_node (Form-F.Subroutine n ns) = FSubroutine n ns
-form_node (Form-F.End e) = FEnd e
-form_node Form-F.ImplicitNone = FImplicitNone
-form_node (Form-F.Integer ds) = FInteger (map declared ds)
-form_node (Form-F.Parameter ds) = FParameter (map define ds)
-form_node (Form-F.Assign s t) = FAssign (spot s) (plain t)
-form_node (Form-F.IfThen c) = FIfThen (plain c)
-form_node (Form-F.ElseIf c) = FElseIf (plain c)
-form_node Form-F.Else = FElse
-form_node Form-F.EndIf = FEndIf
-form_node (Form-F.LogicalIf c s) = FLogicalIf (plain c) s.value.0 s.value.1
-form_node (Form-F.Do l) = FDo (loop l)
-form_node Form-F.EndDo = FEndDo
-form_node (Form-F.Doall l ns) = FDoall (loop l) ns
-form_node Form-F.EndDoall = FEndDoall
-form_node (Form-F.Call n ts) = FCall n (map plain ts)
-form_node (Form-F.Print ss) = FPrint (map shown ss)
-form_node (Form-F.Read ss) = FRead (map spot ss)
-
-abbrev pub statement_node : Statement-F PForm (Place × PForm) → Place × PForm
-statement_node s = (s.place, s.form)
-
-abbrev pub form : Form → PForm
-form = fold-Form PForm (Place × PForm) form_node statement_node
-
--- a statement with its place
-abbrev pub statement : Statement → Place × PForm
-statement s = (s.place, form s.form)
-
--- ---- reading
-
 abbrev pub of_kind : Kind → Plain × List Lexed → Kind → Option (Plain × List Lexed)
 of_kind k.Number x k.Number = Some x
-of_kind k.Number x k.Truth = None
-of_kind k.Number x k.Neither = None
 of_kind k.Truth x k.Truth = Some x
-of_kind k.Truth x k.Number = None
-of_kind k.Truth x k.Neither = None
-of_kind k.Neither x q = None
+of_kind wanted x found = None
 
 -- at most 64 parentheses are open in a tree
 unfoldable pub whole : Gets Plain
@@ -174,26 +66,7 @@ end_by w.Subroutine ts = last_name ts >>= λ n. Some (FEnd (e.Subroutine n))
 end_by w.If ts = finished ts >>= λ _. Some FEndIf
 end_by w.Do ts = finished ts >>= λ _. Some FEndDo
 end_by w.Doall ts = finished ts >>= λ _. Some FEndDoall
-end_by w.End ts = None
-end_by w.EndDo ts = None
-end_by w.EndIf ts = None
-end_by w.EndDoall ts = None
-end_by w.Integer ts = None
-end_by w.Parameter ts = None
-end_by w.Implicit ts = None
-end_by w.Nothing ts = None
-end_by w.Private ts = None
-end_by w.Then ts = None
-end_by w.Else ts = None
-end_by w.ElseIf ts = None
-end_by w.Call ts = None
-end_by w.Read ts = None
-end_by w.Print ts = None
-end_by w.Abs ts = None
-end_by w.Min ts = None
-end_by w.Max ts = None
-end_by w.Mod ts = None
-end_by w.Common ts = None
+end_by other ts = None
 
 abbrev pub end_at : List Lexed → Option PForm
 end_at ts = maybe (word_at ts) (λ x. end_by x.0 x.1) (finished ts >>= λ _. Some (FEnd e.Plain))
@@ -259,9 +132,7 @@ valued ts = number_at ts >>= λ x. Some (PValue x.0, x.1)
 
 abbrev pub shown_as : Token → List Lexed → List Lexed → Option (PShown × List Lexed)
 shown_as (Text b) ts all = Some (PText b, ts)
-shown_as (Name n) ts all = valued all
-shown_as (Number z) ts all = valued all
-shown_as (Symbol s) ts all = valued all
+shown_as other ts all = valued all
 
 abbrev pub shown_at : Gets PShown
 shown_at [] = None
@@ -278,28 +149,7 @@ abbrev pub simple_by : Word → List Lexed → Option PForm
 simple_by w.Call ts = call_at ts
 simple_by w.Print ts = print_at ts
 simple_by w.Read ts = read_at ts
-simple_by w.Program ts = None
-simple_by w.Subroutine ts = None
-simple_by w.End ts = None
-simple_by w.EndDo ts = None
-simple_by w.EndIf ts = None
-simple_by w.EndDoall ts = None
-simple_by w.Integer ts = None
-simple_by w.Parameter ts = None
-simple_by w.Implicit ts = None
-simple_by w.Nothing ts = None
-simple_by w.Do ts = None
-simple_by w.Doall ts = None
-simple_by w.Private ts = None
-simple_by w.If ts = None
-simple_by w.Then ts = None
-simple_by w.Else ts = None
-simple_by w.ElseIf ts = None
-simple_by w.Abs ts = None
-simple_by w.Min ts = None
-simple_by w.Max ts = None
-simple_by w.Mod ts = None
-simple_by w.Common ts = None
+simple_by other ts = None
 
 unfoldable pub simple_at : List Lexed → Option PForm
 simple_at ts = maybe (word_at ts) (λ x. simple_by x.0 x.1) (assign_at ts)
@@ -333,22 +183,11 @@ form_by w.Doall ts all = doall_at ts
 form_by w.If ts all = if_at ts
 form_by w.Else ts all = else_at ts
 form_by w.ElseIf ts all = else_if_at ts
-form_by w.Call ts all = simple_at all
-form_by w.Read ts all = simple_at all
-form_by w.Print ts all = simple_at all
-form_by w.Parameter ts all = simple_at all
-form_by w.Nothing ts all = simple_at all
-form_by w.Private ts all = simple_at all
-form_by w.Then ts all = simple_at all
-form_by w.Abs ts all = simple_at all
-form_by w.Min ts all = simple_at all
-form_by w.Max ts all = simple_at all
-form_by w.Mod ts all = simple_at all
-form_by w.Common ts all = simple_at all
+form_by other ts all = simple_at all
 
 unfoldable pub form_at : List Lexed → Option PForm
 form_at ts = maybe (word_at ts) (λ x. form_by x.0 x.1 ts) (simple_at ts)
 
 -- the statement that a line's tokens are read as
-abbrev pub statement_at : List Lexed → Option (Place × PForm)
-statement_at ts = place_at ts >>= λ p. form_at ts >>= λ f. Some (p, f)
+abbrev pub statement_at : List Lexed → Option PStatement
+statement_at ts = place_at ts >>= λ p. form_at ts >>= λ f. Some (record { place = p; form = f })

@@ -5,8 +5,8 @@ use Rattle.cdc_base.specs.declared.place.Place.{Place}
 use Rattle.cdc_prog.specs.declared.expr.BinOp.{BinOp}
 use Rattle.cdc_prog.specs.declared.expr.BinOp.TheVariants as b
 use Rattle.cdc_parse.specs.declared.operator.Sign.TheVariants as g
-use Rattle.cdc_parse.specs.declared.tree.Named.{Named}
-use Rattle.cdc_parse.specs.declared.tree.Intrinsic.TheVariants as i
+use Rattle.cdc_tree.specs.declared.tree.Named.{Named}
+use Rattle.cdc_tree.specs.declared.tree.Intrinsic.TheVariants as i
 use Rattle.cdc_parse.specs.Tokens.{IsName}
 use Rattle.cdc_parse.specs.Operators.{rank}
 use Rattle.cdc_parse.specs.Written.{Written, WNumber, WName, WApply, WKnown, WParen, WUnary, WBinary, Rest, REnd, RMore}

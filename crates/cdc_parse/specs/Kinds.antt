@@ -4,11 +4,11 @@ use Rattle.cdc_prog.specs.declared.expr.UnOp.{UnOp}
 use Rattle.cdc_prog.specs.declared.expr.UnOp.TheVariants as u
 use Rattle.cdc_prog.specs.declared.expr.BinOp.{BinOp}
 use Rattle.cdc_prog.specs.declared.expr.BinOp.TheVariants as b
-use Rattle.cdc_parse.specs.declared.tree.Intrinsic.{Intrinsic}
-use Rattle.cdc_parse.specs.declared.tree.Intrinsic.TheVariants as i
+use Rattle.cdc_tree.specs.declared.tree.Intrinsic.{Intrinsic}
+use Rattle.cdc_tree.specs.declared.tree.Intrinsic.TheVariants as i
 use Rattle.cdc_parse.specs.declared.kind.Kind.{Kind}
 use Rattle.cdc_parse.specs.declared.kind.Kind.TheVariants as k
-use Rattle.cdc_parse.specs.Plain.{Plain, PNumber, PName, PApply, PParen, PPlus, PUn, PBin, PKnown, Plains, PEnd, PMore}
+use Rattle.cdc_tree.specs.Plain.{Plain, PNumber, PName, PApply, PParen, PPlus, PUn, PBin, PKnown, Plains, PEnd, PMore}
 
 abbrev pub number_if : Bool → Kind
 number_if true = k.Number
@@ -16,8 +16,7 @@ number_if false = k.Neither
 
 abbrev pub is_number : Kind → Bool
 is_number k.Number = true
-is_number k.Truth = false
-is_number k.Neither = false
+is_number other = false
 
 abbrev pub if_number : Kind → Kind → Kind
 if_number k.Number r = r

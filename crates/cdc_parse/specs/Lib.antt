@@ -1,7 +1,6 @@
 pub mod Forms
 pub mod Kinds
 pub mod Operators
-pub mod Plain
 pub mod Reading
 pub mod Tokens
 pub mod Words
@@ -9,8 +8,4 @@ pub mod Written
 pub mod Stands
 pub mod Depth
 pub mod Lines
-pub mod Roles
-pub mod Units
-pub mod Bare
-pub mod Nesting
 pub mod Grammar

@@ -3,22 +3,18 @@ use Rattle.std.specs.Prelude.{◌≡◌, ℕ, ◌<◌, ◌≤◌, List, [], ◌�
 use Rattle.cdc_base.specs.declared.place.Place.{Place}
 use Rattle.cdc_token.specs.declared.token.Lexed.{Lexed}
 use Rattle.cdc_token.specs.declared.token.Line.{Line}
-use Rattle.cdc_parse.specs.declared.form.Statement.{Statement}
-use Rattle.cdc_parse.specs.declared.refusal.ParseRefusal.{ParseRefusal}
-use Rattle.cdc_parse.specs.declared.refusal.ParseRefusal.TheVariants.{NotAStatement, Depth, Nesting, Memory}
+use Rattle.cdc_tree.specs.declared.form.Statement.{Statement}
+use Rattle.cdc_tree.specs.declared.refusal.ParseRefusal.{ParseRefusal}
+use Rattle.cdc_tree.specs.declared.refusal.ParseRefusal.TheVariants.{NotAStatement, Depth, Nesting, Memory}
 use Rattle.cdc_parse.specs.Depth.{deepest, IsDeep}
-use Rattle.cdc_parse.specs.Forms.{PForm, statement, place_at}
+use Rattle.cdc_tree.specs.Forms.{PStatement, statement}
+use Rattle.cdc_tree.specs.Order.{Each, Ascending}
+use Rattle.cdc_parse.specs.Forms.{place_at}
 use Rattle.cdc_parse.specs.Stands.{StandsFor}
 
--- P holds of each line
-abbrev pub Each : (Line → Type 0) → List Line → Type 0
-Each P [] = Unit {0}
-Each P (l ∷ ls) = P l × Each P ls
-
--- the numbers of logical lines ascend; several lines may have one number
+-- the numbers of logical lines ascend
 abbrev pub Ascend : List Line → Type 0
-Ascend [] = Unit {0}
-Ascend (l ∷ ls) = Each (λ m. l.line ≤ m.line) ls × Ascend ls
+Ascend = Ascending (λ l. l.line)
 
 -- the number of a line is the line of its first token
 pub record IsNumbered (line : Line) : Type 0 where
@@ -33,17 +29,16 @@ pub record IsWithin (tokens : List Lexed) : Type 0 where
 
 -- no statement stands for the tokens
 abbrev pub HasNone : List Lexed → Type 0
-HasNone tokens = (s : Place × PForm) → StandsFor s tokens → ⊥
+HasNone tokens = (s : PStatement) → StandsFor s tokens → ⊥
 
 -- the line is within the limits, and a statement stands for it
 pub record IsGood (line : Line) : Type 0 where
   pub within : IsWithin line.tokens
-  pub place : Place
-  pub form : PForm
-  pub stands : StandsFor (place, form) line.tokens
+  pub statement : PStatement
+  pub stands : StandsFor statement line.tokens
 
 -- each statement stands for its line, in order
-abbrev pub StandAll : List (Place × PForm) → List Line → Type 0
+abbrev pub StandAll : List PStatement → List Line → Type 0
 StandAll [] [] = Unit {0}
 StandAll [] (l ∷ ls) = ⊥
 StandAll (s ∷ ss) [] = ⊥

@@ -5,33 +5,18 @@ use Rattle.cdc_prog.specs.declared.expr.BinOp.{BinOp}
 use Rattle.cdc_prog.specs.declared.expr.BinOp.TheVariants as b
 use Rattle.cdc_token.specs.declared.token.Lexed.{Lexed}
 use Rattle.cdc_token.specs.declared.token.Token.{Token}
-use Rattle.cdc_token.specs.declared.token.Token.TheVariants.{Name, Number, Text, Symbol}
+use Rattle.cdc_token.specs.declared.token.Token.TheVariants.{Symbol}
 use Rattle.cdc_token.specs.declared.token.Symbol.{Symbol as Mark}
 use Rattle.cdc_token.specs.declared.token.Symbol.TheVariants as q
 use Rattle.cdc_parse.specs.declared.operator.Sign.{Sign}
 use Rattle.cdc_parse.specs.declared.operator.Sign.TheVariants as g
-use Rattle.cdc_parse.specs.Tokens.{◌>>=◌}
+use Rattle.cdc_tree.specs.Options.{◌>>=◌}
 
 abbrev pub sign_of : Mark → Option Sign
 sign_of q.Plus = Some g.Plus
 sign_of q.Minus = Some g.Minus
 sign_of q.Not = Some g.Not
-sign_of q.LeftParen = None
-sign_of q.RightParen = None
-sign_of q.Comma = None
-sign_of q.Colon = None
-sign_of q.DoubleColon = None
-sign_of q.Assign = None
-sign_of q.Star = None
-sign_of q.Slash = None
-sign_of q.Eq = None
-sign_of q.Ne = None
-sign_of q.Lt = None
-sign_of q.Le = None
-sign_of q.Gt = None
-sign_of q.Ge = None
-sign_of q.And = None
-sign_of q.Or = None
+sign_of other = None
 
 abbrev pub sign_symbol : Sign → Mark
 sign_symbol g.Plus = q.Plus
@@ -56,13 +41,7 @@ operator_of q.Gt = Some b.Gt
 operator_of q.Ge = Some b.Ge
 operator_of q.And = Some b.And
 operator_of q.Or = Some b.Or
-operator_of q.LeftParen = None
-operator_of q.RightParen = None
-operator_of q.Comma = None
-operator_of q.Colon = None
-operator_of q.DoubleColon = None
-operator_of q.Assign = None
-operator_of q.Not = None
+operator_of other = None
 
 -- Mod, Min and Max are written before their operands, so no symbol is read as one of them.
 abbrev pub symbol : BinOp → Mark
@@ -103,9 +82,7 @@ rank b.Max = 9
 
 abbrev pub sign_in : ℕ → Token → Option Sign
 sign_in r (Symbol s) = sign_of s >>= λ g. if sign_rank g == r then Some g else None
-sign_in r (Name n) = None
-sign_in r (Number n) = None
-sign_in r (Text b) = None
+sign_in r other = None
 
 -- the sign of this rank that the tokens begin with, its place, and what follows it
 abbrev pub sign_at : ℕ → List Lexed → Option (Sign × Place × List Lexed)
@@ -114,9 +91,7 @@ sign_at r (t ∷ ts) = sign_in r t.token >>= λ g. Some (g, t.place, ts)
 
 abbrev pub operator_in : ℕ → Token → Option BinOp
 operator_in r (Symbol s) = operator_of s >>= λ op. if rank op == r then Some op else None
-operator_in r (Name n) = None
-operator_in r (Number n) = None
-operator_in r (Text b) = None
+operator_in r other = None
 
 -- the operator of this rank that the tokens begin with, and what follows it
 abbrev pub operator_at : ℕ → List Lexed → Option (BinOp × List Lexed)

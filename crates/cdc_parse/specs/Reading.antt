@@ -6,17 +6,18 @@ use Rattle.cdc_token.specs.declared.token.Lexed.{Lexed}
 use Rattle.cdc_token.specs.declared.token.Token.{Token}
 use Rattle.cdc_token.specs.declared.token.Token.TheVariants.{Name, Number, Text, Symbol}
 use Rattle.cdc_token.specs.declared.token.Symbol.TheVariants as q
-use Rattle.cdc_parse.specs.declared.tree.Named.{Named}
-use Rattle.cdc_parse.specs.declared.tree.Intrinsic.{Intrinsic}
-use Rattle.cdc_parse.specs.declared.tree.Intrinsic.TheVariants as i
+use Rattle.cdc_tree.specs.declared.tree.Named.{Named}
+use Rattle.cdc_tree.specs.declared.tree.Intrinsic.{Intrinsic}
+use Rattle.cdc_tree.specs.declared.tree.Intrinsic.TheVariants as i
 use Rattle.cdc_parse.specs.declared.operator.Sign.{Sign}
 use Rattle.cdc_parse.specs.declared.operator.Sign.TheVariants as g
 use Rattle.cdc_parse.specs.declared.word.Word.{Word}
 use Rattle.cdc_parse.specs.declared.word.Word.TheVariants as w
 use Rattle.cdc_parse.specs.Words.{word_named}
-use Rattle.cdc_parse.specs.Tokens.{◌>>=◌, maybe, after}
+use Rattle.cdc_tree.specs.Options.{◌>>=◌, maybe}
+use Rattle.cdc_parse.specs.Tokens.{after}
 use Rattle.cdc_parse.specs.Operators.{sign_at, operator_at}
-use Rattle.cdc_parse.specs.Plain.{Plain, PNumber, PName, PApply, PParen, PPlus, PUn, PBin, PKnown, plains}
+use Rattle.cdc_tree.specs.Plain.{Plain, PNumber, PName, PApply, PParen, PPlus, PUn, PBin, PKnown, plains}
 
 -- an item and the tokens after it
 abbrev pub Gets : Type 0 → Type 0
@@ -63,27 +64,7 @@ intrinsic_of w.Abs = Some i.Abs
 intrinsic_of w.Mod = Some i.Mod
 intrinsic_of w.Min = Some i.Min
 intrinsic_of w.Max = Some i.Max
-intrinsic_of w.Program = None
-intrinsic_of w.Subroutine = None
-intrinsic_of w.End = None
-intrinsic_of w.EndDo = None
-intrinsic_of w.EndIf = None
-intrinsic_of w.EndDoall = None
-intrinsic_of w.Integer = None
-intrinsic_of w.Parameter = None
-intrinsic_of w.Implicit = None
-intrinsic_of w.Nothing = None
-intrinsic_of w.Do = None
-intrinsic_of w.Doall = None
-intrinsic_of w.Private = None
-intrinsic_of w.If = None
-intrinsic_of w.Then = None
-intrinsic_of w.Else = None
-intrinsic_of w.ElseIf = None
-intrinsic_of w.Call = None
-intrinsic_of w.Read = None
-intrinsic_of w.Print = None
-intrinsic_of w.Common = None
+intrinsic_of other = None
 
 -- a name, alone or with arguments
 abbrev pub reference : Gets Plain → Named → Gets Plain

@@ -4,15 +4,16 @@ use Rattle.cdc_base.specs.declared.place.Place.{Place}
 use Rattle.cdc_token.specs.declared.token.Lexed.{Lexed}
 use Rattle.cdc_token.specs.declared.token.Token.TheVariants.{Text}
 use Rattle.cdc_token.specs.declared.token.Symbol.TheVariants as q
-use Rattle.cdc_parse.specs.declared.tree.Named.{Named}
-use Rattle.cdc_parse.specs.declared.form.Ending.{Ending}
-use Rattle.cdc_parse.specs.declared.form.Ending.TheVariants as e
+use Rattle.cdc_tree.specs.declared.tree.Named.{Named}
+use Rattle.cdc_tree.specs.declared.form.Ending.{Ending}
+use Rattle.cdc_tree.specs.declared.form.Ending.TheVariants as e
 use Rattle.cdc_parse.specs.declared.word.Word.{Word}
 use Rattle.cdc_parse.specs.declared.word.Word.TheVariants as w
 use Rattle.cdc_parse.specs.Tokens.{at, mark, word, name, IsName}
-use Rattle.cdc_parse.specs.Plain.{Plain}
+use Rattle.cdc_tree.specs.Plain.{Plain}
 use Rattle.cdc_parse.specs.Written.{IsExpression, IsCondition}
-use Rattle.cdc_parse.specs.Forms.{PBound, PDeclared, PDefine, PSpot, PLoop, PShown, PText, PValue, PForm, FProgram, FSubroutine, FEnd, FImplicitNone, FInteger, FParameter, FAssign, FIfThen, FElseIf, FElse, FEndIf, FLogicalIf, FDo, FEndDo, FDoall, FEndDoall, FCall, FPrint, FRead, place_at}
+use Rattle.cdc_tree.specs.Forms.{PBound, PDeclared, PDefine, PSpot, PLoop, PShown, PText, PValue, PForm, FProgram, FSubroutine, FEnd, FImplicitNone, FInteger, FParameter, FAssign, FIfThen, FElseIf, FElse, FEndIf, FLogicalIf, FDo, FEndDo, FDoall, FEndDoall, FCall, FPrint, FRead, PStatement}
+use Rattle.cdc_parse.specs.Forms.{place_at}
 
 -- what the tokens of an item are
 abbrev pub Writes : Type 0 → Type 1
@@ -115,21 +116,7 @@ IsSimple (FAssign target value) ts =
 IsSimple (FCall n actuals) ts = (p : Place) × (us : List Lexed) × IsName n × InParens IsExpression actuals us × (ts ≡ word p w.Call ∷ (name n ∷ us))
 IsSimple (FPrint items) ts = (p : Place) × (r : Place) × (us : List Lexed) × Commas IsShown items us × (ts ≡ word p w.Print ∷ (mark r q.Star ∷ us))
 IsSimple (FRead targets) ts = (p : Place) × (r : Place) × (us : List Lexed) × Commas IsSpot targets us × (ts ≡ word p w.Read ∷ (mark r q.Star ∷ us))
-IsSimple (FProgram n) ts = ⊥
-IsSimple (FSubroutine n ds) ts = ⊥
-IsSimple (FEnd x) ts = ⊥
-IsSimple FImplicitNone ts = ⊥
-IsSimple (FInteger ds) ts = ⊥
-IsSimple (FParameter ds) ts = ⊥
-IsSimple (FIfThen c) ts = ⊥
-IsSimple (FElseIf c) ts = ⊥
-IsSimple FElse ts = ⊥
-IsSimple FEndIf ts = ⊥
-IsSimple (FLogicalIf c p f) ts = ⊥
-IsSimple (FDo l) ts = ⊥
-IsSimple FEndDo ts = ⊥
-IsSimple (FDoall l ns) ts = ⊥
-IsSimple FEndDoall ts = ⊥
+IsSimple other ts = ⊥
 
 -- the tokens are written so as this statement
 abbrev pub Stands : Writes PForm
@@ -161,5 +148,5 @@ Stands (FRead targets) ts = IsSimple (FRead targets) ts
 
 -- A statement stands for the tokens of a logical line: its form is written so, and its place is
 -- that of the first token.
-abbrev pub StandsFor : Place × PForm → List Lexed → Type 0
-StandsFor (place, f) ts = Stands f ts × (place_at ts ≡ Some place)
+abbrev pub StandsFor : PStatement → List Lexed → Type 0
+StandsFor s ts = Stands s.form ts × (place_at ts ≡ Some s.place)

@@ -4,13 +4,14 @@ use denote.Enum.Bare.{sameb}
 use Rattle.cdc_base.specs.declared.place.Place.{Place}
 use Rattle.cdc_token.specs.declared.token.Lexed.{Lexed}
 use Rattle.cdc_token.specs.declared.token.Token.{Token}
-use Rattle.cdc_token.specs.declared.token.Token.TheVariants.{Name, Number, Text, Symbol}
+use Rattle.cdc_token.specs.declared.token.Token.TheVariants.{Name, Symbol}
 use Rattle.cdc_token.specs.declared.token.Symbol.{Symbol as Mark}
 use Rattle.cdc_token.specs.contracts.token.Symbol.{the_type}
-use Rattle.cdc_parse.specs.declared.tree.Named.{Named}
+use Rattle.cdc_tree.specs.declared.tree.Named.{Named}
 use Rattle.cdc_parse.specs.declared.word.Word.{Word}
 use Rattle.cdc_parse.specs.declared.refusal.Unread.{Unread}
 use Rattle.cdc_parse.specs.declared.refusal.Unread.TheVariants.{NotAStatement, Memory}
+use Rattle.cdc_tree.specs.Options.{◌>>=◌}
 use Rattle.cdc_parse.specs.Words.{spelling, word_named, same_word}
 
 abbrev pub at : Place → Token → Lexed
@@ -29,16 +30,7 @@ name n = at n.place (Name n.name)
 abbrev pub IsName : Named → Type 0
 IsName n = word_named n.name ≡ None
 
--- ---- steps that may fail
-
-infixl 10 ◌>>=◌
-abbrev pub ◌>>=◌ : {A B : Type 0} → Option A → (A → Option B) → Option B
-(Some x) >>= f = f x
-None >>= f = None
-
-abbrev pub maybe : {A X : Type 0} → Option A → (A → X) → X → X
-maybe (Some a) f x = f a
-maybe None f x = x
+-- ---- what functions return
 
 -- What a function returned, seen by view, is what a definition gives, unless memory ran out.
 abbrev pub Fails : {Y : Type 0} → Unread → Option Y → Type 0
@@ -62,9 +54,7 @@ same = sameb the_type
 
 abbrev pub after_token : Mark → Token → List Lexed → Option (List Lexed)
 after_token s (Symbol t) ts = if same t s then Some ts else None
-after_token s (Name n) ts = None
-after_token s (Number n) ts = None
-after_token s (Text b) ts = None
+after_token s other ts = None
 
 -- what follows the symbol that the tokens begin with
 abbrev pub after : Mark → List Lexed → Option (List Lexed)
@@ -73,9 +63,7 @@ after s (t ∷ ts) = after_token s t.token ts
 
 abbrev pub word_of : Token → Option Word
 word_of (Name n) = word_named n
-word_of (Number n) = None
-word_of (Text b) = None
-word_of (Symbol s) = None
+word_of other = None
 
 -- the reserved word that the tokens begin with, and what follows it
 abbrev pub word_at : List Lexed → Option (Word × List Lexed)
@@ -91,9 +79,7 @@ unreserved n p ts None = Some (record { name = n; place = p }, ts)
 
 abbrev pub name_token : Place → Token → List Lexed → Option (Named × List Lexed)
 name_token p (Name n) ts = unreserved n p ts (word_named n)
-name_token p (Number n) ts = None
-name_token p (Text b) ts = None
-name_token p (Symbol s) ts = None
+name_token p other ts = None
 
 -- the name that the tokens begin with, and what follows it
 abbrev pub name_at : List Lexed → Option (Named × List Lexed)

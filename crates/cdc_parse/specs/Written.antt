@@ -7,15 +7,15 @@ use Rattle.cdc_token.specs.declared.token.Lexed.{Lexed}
 use Rattle.cdc_token.specs.declared.token.Token.TheVariants.{Number}
 use Rattle.cdc_token.specs.declared.token.Symbol.TheVariants as q
 use Rattle.cdc_parse.specs.declared.operator.Sign.{Sign}
-use Rattle.cdc_parse.specs.declared.tree.Named.{Named}
-use Rattle.cdc_parse.specs.declared.tree.Intrinsic.{Intrinsic}
-use Rattle.cdc_parse.specs.declared.tree.Intrinsic.TheVariants as i
+use Rattle.cdc_tree.specs.declared.tree.Named.{Named}
+use Rattle.cdc_tree.specs.declared.tree.Intrinsic.{Intrinsic}
+use Rattle.cdc_tree.specs.declared.tree.Intrinsic.TheVariants as i
 use Rattle.cdc_parse.specs.declared.word.Word.{Word}
 use Rattle.cdc_parse.specs.declared.word.Word.TheVariants as w
 use Rattle.cdc_parse.specs.declared.kind.Kind.TheVariants as k
 use Rattle.cdc_parse.specs.Tokens.{at, mark, word, name, IsName}
 use Rattle.cdc_parse.specs.Operators.{sign_symbol, sign_rank, symbol, rank}
-use Rattle.cdc_parse.specs.Plain.{Plain, PNumber, PName, PApply, PParen, PBin, PKnown, Plains, PEnd, PMore}
+use Rattle.cdc_tree.specs.Plain.{Plain, PNumber, PName, PApply, PParen, PBin, PKnown, Plains, PEnd, PMore}
 use Rattle.cdc_parse.specs.Kinds.{kind}
 use Rattle.cdc_parse.specs.Reading.{signed}
 

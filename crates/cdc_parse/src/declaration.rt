@@ -3,20 +3,21 @@
 ghost use Rattle.std.specs.Prelude.{◌≡◌, map, Some};
 ghost use Rattle.cdc_parse.specs.Tokens.{Gives};
 ghost use Rattle.cdc_parse.specs.Reading as r;
+ghost use Rattle.cdc_tree.specs.Forms as v;
 ghost use Rattle.cdc_parse.specs.Forms as f;
 
-use crate::form::{Bound, Declared, Define, Form};
 use crate::parts::number;
 use crate::refusal::Unread;
 use crate::token::{after, expect, expect_word, finished, name_at};
 use crate::word::Word;
 use cdc_base::List;
 use cdc_token::{Lexed, Symbol};
+use cdc_tree::{Bound, Declared, Define, Form};
 use std::alloc::Global;
 
 /// An upper bound, or a lower and an upper bound with a colon between.
 fn bound(alloc: Global, tokens: &[Lexed]) -> Result<(Bound, &[Lexed]), Unread>
-    ensures { Gives (λ x. (f.bound x.0, x.1.now)) result (f.bound_at tokens.now) }
+    ensures { Gives (λ x. (v.bound x.0, x.1.now)) result (f.bound_at tokens.now) }
 {
     let (first, rest) = number(alloc, tokens)?;
     match after(Symbol::Colon, rest) {
@@ -34,7 +35,7 @@ fn bound(alloc: Global, tokens: &[Lexed]) -> Result<(Bound, &[Lexed]), Unread>
 
 /// Bounds with commas between.
 fn bounds(alloc: Global, tokens: &[Lexed]) -> Result<(Vec<Bound>, &[Lexed]), Unread>
-    ensures { Gives (λ x. (map f.bound x.0.items, x.1.now)) result (r.separated f.bound_at tokens.now) }
+    ensures { Gives (λ x. (map v.bound x.0.items, x.1.now)) result (r.separated f.bound_at tokens.now) }
 {
     let (item, mut rest) = bound(alloc, tokens)?;
     let mut items = Vec::new(alloc);
@@ -54,7 +55,7 @@ fn bounds(alloc: Global, tokens: &[Lexed]) -> Result<(Vec<Bound>, &[Lexed]), Unr
 
 /// The bounds of an array, where there are any.
 fn extents(alloc: Global, tokens: &[Lexed]) -> Result<(List<Bound>, &[Lexed]), Unread>
-    ensures { Gives (λ x. (map f.bound x.0, x.1.now)) result (f.subscripted f.bound_at tokens.now) }
+    ensures { Gives (λ x. (map v.bound x.0, x.1.now)) result (f.subscripted f.bound_at tokens.now) }
 {
     match after(Symbol::LeftParen, tokens) {
         Some(rest) => {
@@ -67,7 +68,7 @@ fn extents(alloc: Global, tokens: &[Lexed]) -> Result<(List<Bound>, &[Lexed]), U
 }
 
 fn declared(alloc: Global, tokens: &[Lexed]) -> Result<(Declared, &[Lexed]), Unread>
-    ensures { Gives (λ x. (f.declared x.0, x.1.now)) result (f.declared_at tokens.now) }
+    ensures { Gives (λ x. (v.declared x.0, x.1.now)) result (f.declared_at tokens.now) }
 {
     let (name, rest) = name_at(alloc, tokens)?;
     let (bounds, rest) = extents(alloc, rest)?;
@@ -75,7 +76,7 @@ fn declared(alloc: Global, tokens: &[Lexed]) -> Result<(Declared, &[Lexed]), Unr
 }
 
 fn define(alloc: Global, tokens: &[Lexed]) -> Result<(Define, &[Lexed]), Unread>
-    ensures { Gives (λ x. (f.define x.0, x.1.now)) result (f.define_at tokens.now) }
+    ensures { Gives (λ x. (v.define x.0, x.1.now)) result (f.define_at tokens.now) }
 {
     let (name, rest) = name_at(alloc, tokens)?;
     let rest = expect(Symbol::Assign, rest)?;
@@ -85,7 +86,7 @@ fn define(alloc: Global, tokens: &[Lexed]) -> Result<(Define, &[Lexed]), Unread>
 
 /// Declared variables with commas between.
 fn declarations(alloc: Global, tokens: &[Lexed]) -> Result<(Vec<Declared>, &[Lexed]), Unread>
-    ensures { Gives (λ x. (map f.declared x.0.items, x.1.now)) result (r.separated f.declared_at tokens.now) }
+    ensures { Gives (λ x. (map v.declared x.0.items, x.1.now)) result (r.separated f.declared_at tokens.now) }
 {
     let (item, mut rest) = declared(alloc, tokens)?;
     let mut items = Vec::new(alloc);
@@ -105,7 +106,7 @@ fn declarations(alloc: Global, tokens: &[Lexed]) -> Result<(Vec<Declared>, &[Lex
 
 /// Named constants with commas between.
 fn defines(alloc: Global, tokens: &[Lexed]) -> Result<(Vec<Define>, &[Lexed]), Unread>
-    ensures { Gives (λ x. (map f.define x.0.items, x.1.now)) result (r.separated f.define_at tokens.now) }
+    ensures { Gives (λ x. (map v.define x.0.items, x.1.now)) result (r.separated f.define_at tokens.now) }
 {
     let (item, mut rest) = define(alloc, tokens)?;
     let mut items = Vec::new(alloc);
@@ -125,7 +126,7 @@ fn defines(alloc: Global, tokens: &[Lexed]) -> Result<(Vec<Define>, &[Lexed]), U
 
 /// What follows `INTEGER ,`.
 fn parameter(alloc: Global, tokens: &[Lexed]) -> Result<Form, Unread>
-    ensures { Gives f.form result (f.parameter_at tokens.now) }
+    ensures { Gives v.form result (f.parameter_at tokens.now) }
 {
     let rest = expect_word(Word::Parameter, tokens)?;
     let rest = expect(Symbol::DoubleColon, rest)?;
@@ -135,7 +136,7 @@ fn parameter(alloc: Global, tokens: &[Lexed]) -> Result<Form, Unread>
 }
 
 fn items(alloc: Global, tokens: &[Lexed]) -> Result<Form, Unread>
-    ensures { Gives f.form result (f.items_at tokens.now) }
+    ensures { Gives v.form result (f.items_at tokens.now) }
 {
     let (declarations, rest) = declarations(alloc, tokens)?;
     finished(rest)?;
@@ -144,7 +145,7 @@ fn items(alloc: Global, tokens: &[Lexed]) -> Result<Form, Unread>
 
 /// What follows INTEGER.
 pub(crate) fn integer(alloc: Global, tokens: &[Lexed]) -> Result<Form, Unread>
-    ensures { Gives f.form result (f.integer_at tokens.now) }
+    ensures { Gives v.form result (f.integer_at tokens.now) }
 {
     match after(Symbol::Comma, tokens) {
         Some(rest) => parameter(alloc, rest),
@@ -157,7 +158,7 @@ pub(crate) fn integer(alloc: Global, tokens: &[Lexed]) -> Result<Form, Unread>
 
 /// What follows IMPLICIT.
 pub(crate) fn implicit(tokens: &[Lexed]) -> Result<Form, Unread>
-    ensures { Gives f.form result (f.implicit_at tokens.now) }
+    ensures { Gives v.form result (f.implicit_at tokens.now) }
 {
     let rest = expect_word(Word::Nothing, tokens)?;
     finished(rest)?;

@@ -1,24 +1,24 @@
 //! The statement that a line's tokens are.
 
 ghost use Rattle.std.specs.Prelude.{◌≡◌, Some, option_map};
-ghost use Rattle.cdc_parse.specs.Plain.{plain};
+ghost use Rattle.cdc_tree.specs.Plain.{plain};
 ghost use Rattle.cdc_parse.specs.Tokens.{Gives};
+ghost use Rattle.cdc_tree.specs.Forms as v;
 ghost use Rattle.cdc_parse.specs.Forms as f;
 
 use crate::declaration::{implicit, integer};
-use crate::form::{Ending, Form, Loop, Statement};
 use crate::parts::{closed_names, dummies, guard, number};
 use crate::refusal::Unread;
 use crate::simple::simple;
 use crate::token::{after, after_word, expect, expect_word, finished, name_at, word_at};
-use crate::tree::{Named, Tree};
 use crate::word::Word;
 use cdc_base::{List, Place};
 use cdc_token::{Lexed, Symbol};
+use cdc_tree::{Ending, Form, Loop, Named, Statement, Tree};
 use std::alloc::Global;
 
 fn program(alloc: Global, tokens: &[Lexed]) -> Result<Form, Unread>
-    ensures { Gives f.form result (f.program_at tokens.now) }
+    ensures { Gives v.form result (f.program_at tokens.now) }
 {
     let (name, rest) = name_at(alloc, tokens)?;
     finished(rest)?;
@@ -26,7 +26,7 @@ fn program(alloc: Global, tokens: &[Lexed]) -> Result<Form, Unread>
 }
 
 fn subroutine(alloc: Global, tokens: &[Lexed]) -> Result<Form, Unread>
-    ensures { Gives f.form result (f.subroutine_at tokens.now) }
+    ensures { Gives v.form result (f.subroutine_at tokens.now) }
 {
     let (name, rest) = name_at(alloc, tokens)?;
     let (dummies, rest) = dummies(alloc, rest)?;
@@ -49,7 +49,7 @@ fn last_name(alloc: Global, tokens: &[Lexed]) -> Result<Option<Named>, Unread>
 }
 
 fn alone(form: Form, tokens: &[Lexed]) -> Result<Form, Unread>
-    ensures { Gives f.form result (f.alone (f.form form) tokens.now) }
+    ensures { Gives v.form result (f.alone (v.form form) tokens.now) }
 {
     finished(tokens)?;
     Ok(form)
@@ -57,7 +57,7 @@ fn alone(form: Form, tokens: &[Lexed]) -> Result<Form, Unread>
 
 /// What follows END.
 fn end(alloc: Global, tokens: &[Lexed]) -> Result<Form, Unread>
-    ensures { Gives f.form result (f.end_at tokens.now) }
+    ensures { Gives v.form result (f.end_at tokens.now) }
 {
     match word_at(tokens) {
         None => alone(Form::End(Ending::Plain), tokens),
@@ -74,7 +74,7 @@ fn end(alloc: Global, tokens: &[Lexed]) -> Result<Form, Unread>
 
 /// The controls of a DO or a DOALL.
 fn controls(alloc: Global, tokens: &[Lexed]) -> Result<(Loop, &[Lexed]), Unread>
-    ensures { Gives (λ x. (f.loop x.0, x.1.now)) result (f.loop_at tokens.now) }
+    ensures { Gives (λ x. (v.loop x.0, x.1.now)) result (f.loop_at tokens.now) }
 {
     let (var, rest) = name_at(alloc, tokens)?;
     let rest = expect(Symbol::Assign, rest)?;
@@ -100,7 +100,7 @@ fn step(alloc: Global, tokens: &[Lexed]) -> Result<(Option<Tree>, &[Lexed]), Unr
 
 /// What follows DO.
 fn counted(alloc: Global, tokens: &[Lexed]) -> Result<Form, Unread>
-    ensures { Gives f.form result (f.do_at tokens.now) }
+    ensures { Gives v.form result (f.do_at tokens.now) }
 {
     let (controls, rest) = controls(alloc, tokens)?;
     finished(rest)?;
@@ -126,7 +126,7 @@ fn privates(alloc: Global, tokens: &[Lexed]) -> Result<List<Named>, Unread>
 }
 
 fn doall(alloc: Global, tokens: &[Lexed]) -> Result<Form, Unread>
-    ensures { Gives f.form result (f.doall_at tokens.now) }
+    ensures { Gives v.form result (f.doall_at tokens.now) }
 {
     let (controls, rest) = controls(alloc, tokens)?;
     let privates = privates(alloc, rest)?;
@@ -144,7 +144,7 @@ fn place_at(tokens: &[Lexed]) -> Result<Place, Unread>
 
 /// The IF with this condition and the statement that the tokens are.
 fn logical(alloc: Global, condition: Tree, tokens: &[Lexed]) -> Result<Form, Unread>
-    ensures { Gives f.form result (f.logical (plain condition) tokens.now) }
+    ensures { Gives v.form result (f.logical (plain condition) tokens.now) }
 {
     let place = place_at(tokens)?;
     let form = simple(alloc, tokens)?;
@@ -154,7 +154,7 @@ fn logical(alloc: Global, condition: Tree, tokens: &[Lexed]) -> Result<Form, Unr
 
 /// What follows IF.
 fn choice(alloc: Global, tokens: &[Lexed]) -> Result<Form, Unread>
-    ensures { Gives f.form result (f.if_at tokens.now) }
+    ensures { Gives v.form result (f.if_at tokens.now) }
 {
     let (condition, rest) = guard(alloc, tokens)?;
     match after_word(Word::Then, rest) {
@@ -165,7 +165,7 @@ fn choice(alloc: Global, tokens: &[Lexed]) -> Result<Form, Unread>
 
 /// What follows ELSE IF.
 fn other_choice(alloc: Global, tokens: &[Lexed]) -> Result<Form, Unread>
-    ensures { Gives f.form result (f.else_if_at tokens.now) }
+    ensures { Gives v.form result (f.else_if_at tokens.now) }
 {
     let (condition, rest) = guard(alloc, tokens)?;
     let rest = expect_word(Word::Then, rest)?;
@@ -175,7 +175,7 @@ fn other_choice(alloc: Global, tokens: &[Lexed]) -> Result<Form, Unread>
 
 /// What follows ELSE.
 fn otherwise(alloc: Global, tokens: &[Lexed]) -> Result<Form, Unread>
-    ensures { Gives f.form result (f.else_at tokens.now) }
+    ensures { Gives v.form result (f.else_at tokens.now) }
 {
     match after_word(Word::If, tokens) {
         Some(rest) => other_choice(alloc, rest),
@@ -185,7 +185,7 @@ fn otherwise(alloc: Global, tokens: &[Lexed]) -> Result<Form, Unread>
 
 #[tactic(auto, unfolding(crate::specs::Forms::form_at))]
 fn form(alloc: Global, tokens: &[Lexed]) -> Result<Form, Unread>
-    ensures { Gives f.form result (f.form_at tokens.now) }
+    ensures { Gives v.form result (f.form_at tokens.now) }
 {
     match word_at(tokens) {
         Some((Word::Program, rest)) => program(alloc, rest),
@@ -207,7 +207,7 @@ fn form(alloc: Global, tokens: &[Lexed]) -> Result<Form, Unread>
 
 /// The statement that the tokens of a line are.
 pub(crate) fn statement(alloc: Global, tokens: &[Lexed]) -> Result<Statement, Unread>
-    ensures { Gives f.statement result (f.statement_at tokens.now) }
+    ensures { Gives v.statement result (f.statement_at tokens.now) }
 {
     let place = place_at(tokens)?;
     let form = form(alloc, tokens)?;

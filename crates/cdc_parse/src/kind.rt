@@ -1,11 +1,11 @@
 //! What a tree stands for.
 
 ghost use Rattle.std.specs.Prelude.{◌≡◌, map};
-ghost use Rattle.cdc_parse.specs.Plain.{plain, plains};
+ghost use Rattle.cdc_tree.specs.Plain.{plain, plains};
 ghost use Rattle.cdc_parse.specs.Kinds as s;
 
-use crate::tree::{Intrinsic, Tree};
 use cdc_prog::{BinOp, UnOp};
+use cdc_tree::{Intrinsic, Tree};
 
 #[derive(Clone, Copy, Debug, PartialEq, Eq)]
 pub enum Kind {

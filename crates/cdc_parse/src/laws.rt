@@ -1,11 +1,10 @@
 //! What holds of the grammar.
 
 ghost use Rattle.std.specs.Prelude.{◌≡◌, ◌≤◌, List};
-ghost use Rattle.cdc_base.specs.declared.place.Place.{Place};
 ghost use Rattle.cdc_token.specs.declared.token.Lexed.{Lexed};
 ghost use Rattle.cdc_parse.specs.declared.kind.Kind.TheVariants.{Number, Truth};
 ghost use Rattle.cdc_parse.specs.Depth.{deepest};
-ghost use Rattle.cdc_parse.specs.Forms.{PForm};
+ghost use Rattle.cdc_tree.specs.Forms.{PStatement};
 ghost use Rattle.cdc_parse.specs.Stands.{StandsFor};
 ghost use Rattle.cdc_parse.specs.Kinds.{kind};
 ghost use Rattle.cdc_parse.specs.Written.{Written, Fits, meant};
@@ -13,7 +12,7 @@ ghost use Rattle.cdc_parse.specs.Grammar.{Expr, Cond, expr, condition};
 
 /// No line within the limit of depth has two statements.
 pub fn one_statement()
-    ensures { (tokens : List Lexed) (s t : Place × PForm) → deepest 0 tokens ≤ 64 → StandsFor s tokens → StandsFor t tokens → s ≡ t }
+    ensures { (tokens : List Lexed) (s t : PStatement) → deepest 0 tokens ≤ 64 → StandsFor s tokens → StandsFor t tokens → s ≡ t }
 {}
 
 /// The table of operators and the grammar, rule by rule, have the same expressions and conditions.

@@ -1,15 +1,16 @@
 //! The statements of logical lines.
 
-ghost use Rattle.std.specs.Prelude.{◌≡◌, ◌≤◌, true, false, IfOk};
+ghost use Rattle.std.specs.Prelude.{◌≡◌, ◌≤◌, map, true, false, IfOk};
 ghost use Rattle.cdc_parse.specs.Depth.{opened, IsDeep};
-ghost use Rattle.cdc_parse.specs.Units.{InOrder};
-ghost use Rattle.cdc_parse.specs.Lines.{Ascend, Each, IsNumbered, SomeLine, IsWithin, IsStatement, IsForemost, AreStatements};
+ghost use Rattle.cdc_tree.specs.Forms.{statement};
+ghost use Rattle.cdc_tree.specs.Order.{Each, InOrder};
+ghost use Rattle.cdc_parse.specs.Lines.{Ascend, IsNumbered, SomeLine, IsWithin, IsStatement, IsForemost, AreStatements};
 
-use crate::form::Statement;
 use crate::heads::statement;
-use crate::refusal::{ParseRefusal, Unread};
+use crate::refusal::Unread;
 use cdc_base::List;
 use cdc_token::{Lexed, Line, Symbol, Token};
+use cdc_tree::{ParseRefusal, Statement};
 use std::alloc::Global;
 
 /// At most so many parentheses are open at one place of a line.
@@ -131,7 +132,7 @@ pub fn statements(alloc: Global, lines: &List<Line>) -> Result<List<Statement>, 
     requires { Ascend lines.now }
     ensures answer { AreStatements lines.now result }
     // Where each line has the number of its first token, the statements are in order too.
-    ensures ordered { Each IsNumbered lines.now → IfOk result InOrder }
+    ensures ordered { Each IsNumbered lines.now → IfOk result (λ found. InOrder (map statement found)) }
 {
     each_statement(alloc, lines)
 }

@@ -1,19 +1,19 @@
 //! Parts of statements: numbers, conditions and lists.
 
 ghost use Rattle.std.specs.Prelude.{◌≡◌, map, Some};
-ghost use Rattle.cdc_parse.specs.Plain.{plain};
+ghost use Rattle.cdc_tree.specs.Plain.{plain};
 ghost use Rattle.cdc_parse.specs.Tokens.{Gives, name_at};
 ghost use Rattle.cdc_parse.specs.Reading as r;
+ghost use Rattle.cdc_tree.specs.Forms as v;
 ghost use Rattle.cdc_parse.specs.Forms as f;
 
-use crate::form::Spot;
 use crate::kind::{Kind, kind_of};
 use crate::reading::{WHOLE, read};
 use crate::refusal::Unread;
 use crate::token::{after, expect, name_at};
-use crate::tree::{Named, Tree};
 use cdc_base::List;
 use cdc_token::{Lexed, Symbol};
+use cdc_tree::{Named, Spot, Tree};
 use std::alloc::Global;
 
 /// At most so many parentheses are open in an expression or a condition.
@@ -158,7 +158,7 @@ fn subscripts(alloc: Global, tokens: &[Lexed]) -> Result<(List<Tree>, &[Lexed]),
 
 /// What an assignment or a READ stores into.
 pub(crate) fn spot(alloc: Global, tokens: &[Lexed]) -> Result<(Spot, &[Lexed]), Unread>
-    ensures { Gives (λ x. (f.spot x.0, x.1.now)) result (f.spot_at tokens.now) }
+    ensures { Gives (λ x. (v.spot x.0, x.1.now)) result (f.spot_at tokens.now) }
 {
     let (name, rest) = name_at(alloc, tokens)?;
     let (subs, rest) = subscripts(alloc, rest)?;

@@ -1,18 +1,18 @@
 //! Expressions and conditions, read in one pass: what a tree stands for is asked afterwards.
 
 ghost use Rattle.std.specs.Prelude.{◌≡◌, map, Some};
-ghost use Rattle.cdc_parse.specs.Plain.{plain, PPlus, PBin, PApply, PKnown};
+ghost use Rattle.cdc_tree.specs.Plain.{plain, PPlus, PBin, PApply, PKnown};
 ghost use Rattle.cdc_parse.specs.Tokens.{Gives};
 ghost use Rattle.cdc_parse.specs.Reading as r;
 
 use crate::operator::{Sign, operator_at, sign_at};
 use crate::refusal::Unread;
 use crate::token::{after, copied, expect};
-use crate::tree::{Intrinsic, Named, Tree};
 use crate::word::{Word, word_named};
 use cdc_base::{List, Place};
 use cdc_prog::{BinOp, UnOp};
 use cdc_token::{Lexed, Symbol, Token};
+use cdc_tree::{Intrinsic, Named, Tree};
 use std::alloc::Global;
 
 /// The height of a whole expression or condition: above every rank.

@@ -3,19 +3,20 @@
 ghost use Rattle.std.specs.Prelude.{◌≡◌, map, [], length, Some};
 ghost use Rattle.cdc_parse.specs.Tokens.{Gives};
 ghost use Rattle.cdc_parse.specs.Reading as r;
+ghost use Rattle.cdc_tree.specs.Forms as v;
 ghost use Rattle.cdc_parse.specs.Forms as f;
 
-use crate::form::{Form, Shown, Spot};
 use crate::parts::{actuals, number, spot};
 use crate::refusal::Unread;
 use crate::token::{after, copied, expect, finished, name_at, word_at};
 use crate::word::Word;
 use cdc_base::List;
 use cdc_token::{Lexed, Symbol, Token};
+use cdc_tree::{Form, Shown, Spot};
 use std::alloc::Global;
 
 fn assign(alloc: Global, tokens: &[Lexed]) -> Result<Form, Unread>
-    ensures { Gives f.form result (f.assign_at tokens.now) }
+    ensures { Gives v.form result (f.assign_at tokens.now) }
 {
     let (target, rest) = spot(alloc, tokens)?;
     let rest = expect(Symbol::Assign, rest)?;
@@ -25,7 +26,7 @@ fn assign(alloc: Global, tokens: &[Lexed]) -> Result<Form, Unread>
 }
 
 fn call(alloc: Global, tokens: &[Lexed]) -> Result<Form, Unread>
-    ensures { Gives f.form result (f.call_at tokens.now) }
+    ensures { Gives v.form result (f.call_at tokens.now) }
 {
     let (name, rest) = name_at(alloc, tokens)?;
     let (actuals, rest) = actuals(alloc, rest)?;
@@ -35,7 +36,7 @@ fn call(alloc: Global, tokens: &[Lexed]) -> Result<Form, Unread>
 
 /// A text or an expression.
 fn shown(alloc: Global, tokens: &[Lexed]) -> Result<(Shown, &[Lexed]), Unread>
-    ensures { Gives (λ x. (f.shown x.0, x.1.now)) result (f.shown_at tokens.now) }
+    ensures { Gives (λ x. (v.shown x.0, x.1.now)) result (f.shown_at tokens.now) }
 {
     match tokens {
         [] => Err(Unread::NotAStatement),
@@ -51,7 +52,7 @@ fn shown(alloc: Global, tokens: &[Lexed]) -> Result<(Shown, &[Lexed]), Unread>
 
 /// Each item after a comma.
 fn all_shown(alloc: Global, tokens: &[Lexed]) -> Result<(Vec<Shown>, &[Lexed]), Unread>
-    ensures { Gives (λ x. (map f.shown x.0.items, x.1.now)) result (r.more f.shown_at (length tokens.now) [] tokens.now) }
+    ensures { Gives (λ x. (map v.shown x.0.items, x.1.now)) result (r.more f.shown_at (length tokens.now) [] tokens.now) }
 {
     let mut items = Vec::new(alloc);
     let mut rest = tokens;
@@ -70,7 +71,7 @@ fn all_shown(alloc: Global, tokens: &[Lexed]) -> Result<(Vec<Shown>, &[Lexed]), 
 
 /// Each target after a comma.
 fn spots(alloc: Global, tokens: &[Lexed]) -> Result<(Vec<Spot>, &[Lexed]), Unread>
-    ensures { Gives (λ x. (map f.spot x.0.items, x.1.now)) result (r.more f.spot_at (length tokens.now) [] tokens.now) }
+    ensures { Gives (λ x. (map v.spot x.0.items, x.1.now)) result (r.more f.spot_at (length tokens.now) [] tokens.now) }
 {
     let mut items = Vec::new(alloc);
     let mut rest = tokens;
@@ -88,7 +89,7 @@ fn spots(alloc: Global, tokens: &[Lexed]) -> Result<(Vec<Spot>, &[Lexed]), Unrea
 }
 
 fn print(alloc: Global, tokens: &[Lexed]) -> Result<Form, Unread>
-    ensures { Gives f.form result (f.print_at tokens.now) }
+    ensures { Gives v.form result (f.print_at tokens.now) }
 {
     let rest = expect(Symbol::Star, tokens)?;
     let (items, rest) = all_shown(alloc, rest)?;
@@ -97,7 +98,7 @@ fn print(alloc: Global, tokens: &[Lexed]) -> Result<Form, Unread>
 }
 
 fn read(alloc: Global, tokens: &[Lexed]) -> Result<Form, Unread>
-    ensures { Gives f.form result (f.read_at tokens.now) }
+    ensures { Gives v.form result (f.read_at tokens.now) }
 {
     let rest = expect(Symbol::Star, tokens)?;
     let (targets, rest) = spots(alloc, rest)?;
@@ -108,7 +109,7 @@ fn read(alloc: Global, tokens: &[Lexed]) -> Result<Form, Unread>
 /// The assignment, CALL, PRINT or READ that the tokens are.
 #[tactic(auto, unfolding(crate::specs::Forms::simple_at))]
 pub(crate) fn simple(alloc: Global, tokens: &[Lexed]) -> Result<Form, Unread>
-    ensures { Gives f.form result (f.simple_at tokens.now) }
+    ensures { Gives v.form result (f.simple_at tokens.now) }
 {
     match word_at(tokens) {
         Some((Word::Call, rest)) => call(alloc, rest),

@@ -4,10 +4,10 @@ ghost use Rattle.std.specs.Prelude.{◌≡◌, IfOk};
 ghost use Rattle.cdc_parse.specs.Tokens.{Sees, Gives, same, after, word_of, word_at, after_word, name_at, finished};
 
 use crate::refusal::Unread;
-use crate::tree::Named;
 use crate::word::{Word, same_word, word_named};
 use cdc_base::List;
 use cdc_token::{Lexed, Symbol, Token};
+use cdc_tree::Named;
 use std::alloc::Global;
 
 #[tactic(auto, unfolding(crate::specs::Tokens::same))]

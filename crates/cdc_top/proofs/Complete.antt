@@ -6,9 +6,10 @@ use Rattle.cdc_top.specs.Complete.{AllTold, AreGood, HasProgram, AllStayed, IsDo
 use Rattle.cdc_top.specs.Report.{Answer}
 use Rattle.cdc_top.specs.Status.{IsFinished}
 use Rattle.cdc_top.proofs.One.{none_accepted}
+use Rattle.cdc_top.specs.declared.status.TheConstants.{READ_FAULT, WRITE_FAULT, OUT_OF_MEMORY}
 
 -- a status says that the call ended by itself, or why it did not
-which : (n : ℕ) → IsFinished n ⊎ ((n ≡ 5) ⊎ ((n ≡ 6) ⊎ (n ≡ 7)))
+which : (n : ℕ) → IsFinished n ⊎ ((n ≡ READ_FAULT) ⊎ ((n ≡ WRITE_FAULT) ⊎ (n ≡ OUT_OF_MEMORY)))
 which zero = inl (λ e. absurd (omega arith), λ e. absurd (omega arith), λ e. absurd (omega arith))
 which (suc zero) = inl (λ e. absurd (omega arith), λ e. absurd (omega arith), λ e. absurd (omega arith))
 which (suc (suc zero)) = inl (λ e. absurd (omega arith), λ e. absurd (omega arith), λ e. absurd (omega arith))

@@ -5,13 +5,16 @@ use Rattle.std.proofs.lemmas.Bool.Decides.{nat_tests}
 use Rattle.std.proofs.lemmas.List.{length-replicate}
 use Rattle.cdc_base.specs.Outside.{IsWhole, IsLong}
 use Rattle.cdc_base.specs.Causes.{Rose}
-use Rattle.cdc_top.specs.Answer.{usage_text, Command, Usage, ToolEnded, Files, Said, Ended, IsTold, IsAccepted, IsHeader, ScheduleAnswers, InputAnswers, RunAnswers, InputFailed, IsRefusedWith, SaidOneOf, source_refused, input_refused, schedule_refused, ran, source_limit, schedule_limit}
+use Rattle.cdc_top.specs.Answer.{usage_text, Command, Usage, ToolEnded, Files, Said, Ended, IsTold, IsAccepted, IsHeader, ScheduleAnswers, InputAnswers, RunAnswers, InputFailed, IsRefusedWith, SaidOneOf, source_refused, input_refused, schedule_refused, ran}
 use Rattle.cdc_top.specs.Report.{Answer, answer}
 use Rattle.cdc_check.specs.declared.refusal.CheckRefusal.TheVariants.{TooMany}
 use Rattle.cdc_compile.specs.declared.refusal.Refusal.TheVariants.{Check}
 use Rattle.cdc_compile.specs.Texts.{refusal_text}
 use Rattle.cdc_prog.specs.declared.program.Kind.TheVariants as k
 use Rattle.cdc_top.specs.Source.{Source}
+use Rattle.cdc_prog.specs.Limits.{limit}
+use Rattle.cdc_top.specs.declared.limits.TheConstants.{SCHEDULE_LIMIT}
+use Rattle.cdc_top.specs.declared.status.TheConstants.{PROGRAM_REFUSED, OUT_OF_MEMORY}
 
 -- more bytes than a limit
 pub long_bytes : ℕ → List ℕ
@@ -49,7 +52,7 @@ whole_told limit (Some told) bytes whole = whole.0
 
 -- nothing was written for want of memory
 pub ended_nothing : {A : Files → Type 0} {X O : Files → Answer → Type 0} {F : Files → Type 0} (files : Files) (status : ℕ) (old new : Option (List ℕ)) (before now : List ℕ → ℕ) (sink_before sink_now : ℕ)
-    → A files → (status ≡ 7) × (new ≡ old) × (sink_now ≡ sink_before) → Ended A X O F status old new before now sink_before sink_now
+    → A files → (status ≡ OUT_OF_MEMORY) × (new ≡ old) × (sink_now ≡ sink_before) → Ended A X O F status old new before now sink_before sink_now
 ended_nothing files status old new before now sink_before sink_now told memory = record {
   files = files;
   told = told;
@@ -118,7 +121,7 @@ with_schedule bytes = record { program = []; input = []; schedule = bytes }
 pub schedule_refusal : (source : Source) (files : Files) → ((bound : ℕ) → IsHeader files.schedule bound → ⊥) → ScheduleAnswers source files schedule_refused × ((b : Answer) → ScheduleAnswers source files b → b ≡ schedule_refused)
 schedule_refusal source files none = (inl (none, refl), λ b is. elim is [ inl p ↦ p.1 | inr q ↦ absurd (none q.0 q.1) ])
 
-pub schedule_too_long : (limit : ℕ) (bytes : List ℕ) (bound : ℕ) → limit < length bytes → IsHeader bytes bound → limit ≡ schedule_limit → ⊥
+pub schedule_too_long : (limit : ℕ) (bytes : List ℕ) (bound : ℕ) → limit < length bytes → IsHeader bytes bound → limit ≡ SCHEDULE_LIMIT → ⊥
 schedule_too_long limit bytes bound long header is = omega (arith, long, header.within, is)
 
 -- a schedule with a bound is run
@@ -170,7 +173,7 @@ usage_ended command told faults status old new sink_before sink_now is said =
     (ended_said (with_schedule []) (answer usage_text 2) status old new faults faults sink_before sink_now tt refl (λ b same. same) (λ name. refl) said)
 
 -- a program of too many bytes is refused
-pub source_too_long : (bytes : List ℕ) → source_limit < length bytes → IsRefusedWith bytes (answer (refusal_text (Check (TooMany k.Source))) 3)
+pub source_too_long : (bytes : List ℕ) → limit k.Source < length bytes → IsRefusedWith bytes (answer (refusal_text (Check (TooMany k.Source))) PROGRAM_REFUSED)
 source_too_long bytes long = (Check (TooMany k.Source), (λ e. absurd (cc e)), long, refl)
 
 -- one of the answers was said

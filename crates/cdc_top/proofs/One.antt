@@ -1,5 +1,5 @@
 -- `check` and `seq` have one answer, as a source has.
-use Rattle.std.proofs.Common.{◌≡◌, ◌≢◌, ℕ, ◌≤◌, List, [], ◌∷◌, length, sym, ◌∙◌, ap, subst, arith, inl, inr, Result, Ok, Err}
+use Rattle.std.proofs.Common.{◌≡◌, ◌≢◌, ℕ, ◌≤◌, List, [], ◌∷◌, length, map, sym, ◌∙◌, ap, subst, arith, inl, inr, Result, Ok, Err}
 use Rattle.std.specs.Prelude.{codes}
 use Rattle.std.proofs.lemmas.List.{length-map}
 use Rattle.cdc_base.specs.declared.place.Place.{Place}
@@ -11,10 +11,12 @@ use Rattle.cdc_compile.proofs.OneAnswer.{one_answer}
 use Rattle.cdc_input.specs.Refusals.{IsNotAfter}
 use Rattle.cdc_prog.specs.declared.program.Program.{Program}
 use Rattle.cdc_prog.specs.Plain as plain
+use Rattle.cdc_prog.proofs.Numbered.{as_many}
 use Rattle.cdc_prog.specs.Translation.{program_of, unit_of}
 use Rattle.cdc_top.specs.Answer.{IsRefusedWith, CheckAnswers, SeqAnswers}
 use Rattle.cdc_top.specs.Report.{Answer, answer}
 use Rattle.cdc_top.specs.Sequential.{InputIs, IsBadInput, input_bad}
+use Rattle.cdc_top.specs.declared.status.TheConstants.{PROGRAM_REFUSED}
 
 abbrev Ends : Type 0
 Ends = Result plain.Program Refusal
@@ -33,7 +35,7 @@ one_refusal : (source : List ℕ) (a b : Answer) → IsRefusedWith source a → 
 one_refusal source a b (r, other, is, text) (s, unlike, same, words) =
     let e : refused r ≡ refused s = one_answer source (refused r) (refused s) is same (not_memory r other) (not_memory s unlike) in
     let f : r ≡ s = cc in
-    words ∙ ap (λ (t : Refusal). answer (refusal_text t) 3) (sym f) ∙ sym text
+    words ∙ ap (λ (t : Refusal). answer (refusal_text t) PROGRAM_REFUSED) (sym f) ∙ sym text
 
 -- and is not accepted
 pub none_accepted : (source : List ℕ) (a : Answer) (program : plain.Program) → IsRefusedWith source a → IsProgramOf source (Ok program) → ⊥
@@ -52,7 +54,7 @@ plain_text p = line (
 text_is : (p : Program) → plain_text (program_of p) ≡ accepted_text p
 text_is p = ap (λ (n : ℕ). line (
     codes "accepted units " ∷ number n ∷ codes " objects " ∷ number (length p.objects)
-    ∷ codes " words " ∷ number p.words ∷ codes " sites " ∷ number p.sites ∷ codes " doalls " ∷ number p.doalls ∷ [])) (length-map p.units unit_of)
+    ∷ codes " words " ∷ number p.words ∷ codes " sites " ∷ number p.sites ∷ codes " doalls " ∷ number p.doalls ∷ [])) (as_many 0 (map unit_of p.units) ∙ length-map p.units unit_of)
 
 pub one_check : (source : List ℕ) (a b : Answer) → CheckAnswers source a → CheckAnswers source b → b ≡ a
 one_check source a b (inl refused) (inl other) = one_refusal source a b refused other

@@ -11,7 +11,7 @@ use Rattle.cdc_top.specs.Ready.{IsReady}
 use Rattle.cdc_top.specs.Replay.{Replaying, Runs, fresh}
 use Rattle.cdc_base.proofs.Grown.{grown-grown}
 use Rattle.cdc_text.proofs.Pieces.{grown_nothing, front_first, front_second}
-use Rattle.cdc_meaning.proofs.Opened.{opened-opened}
+use Rattle.cdc_prog.proofs.Opened.{opened-opened}
 use Rattle.cdc_top.proofs.Runs.{grows, holds_on, stays}
 
 pub begins : (code : List Step) (machine : Machine) (bound : ℕ) (old : Option (List ℕ)) → Runs code (fresh machine) → Replaying code machine machine 0 bound old old false

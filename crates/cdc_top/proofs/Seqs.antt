@@ -13,9 +13,10 @@ use Rattle.cdc_top.specs.Answer.{Said, SaidOneOf}
 use Rattle.cdc_top.specs.Report.{Answer, answer, line_end, end_line, outcome_of_end, status_of}
 use Rattle.cdc_top.specs.Sequential.{carried_out}
 use Rattle.cdc_top.proofs.Answered.{closes, said_part}
+use Rattle.cdc_top.specs.declared.status.TheConstants.{OUT_OF_MEMORY}
 
 -- an answer whose first bytes were written before
-pub said_behind : (bytes closing : List ℕ) (end status : ℕ) (old mid new : Option (List ℕ)) (before between now : ℕ) → mid ≡ grown old bytes → between ≡ before → status ≢ 7
+pub said_behind : (bytes closing : List ℕ) (end status : ℕ) (old mid new : Option (List ℕ)) (before between now : ℕ) → mid ≡ grown old bytes → between ≡ before → status ≢ OUT_OF_MEMORY
     → Said (answer closing end) status mid new between now → Said (answer (bytes ++ closing) end) status old new before now
 said_behind bytes closing end status old mid new before between now took same some said = record {
   whole = λ finished. let w = said.whole finished in (w.0, w.1 ∙ ap (λ (o : Option (List ℕ)). grown o closing) took ∙ grown-grown old bytes closing, w.2 ∙ same);
@@ -30,7 +31,7 @@ closing open_now outcome = (if◌then◌else◌ {A = List ℕ} open_now (10 ∷ 
 
 -- the output was written, and what stands behind it
 pub played_out : (m : Meaning) (outcome : Outcome) (open_now : Bool) (status : ℕ) (old mid new : Option (List ℕ)) (before between now : ℕ) → mid ≡ grown old m.bytes → outcome_of_end m.end ≡ outcome → open_now ≡ is_open m.bytes
-    → between ≡ before → status ≢ 7 → Said (answer (closing open_now outcome) (status_of outcome)) status mid new between now → SaidOneOf (λ a. a ≡ carried_out m) status old new before now
+    → between ≡ before → status ≢ OUT_OF_MEMORY → Said (answer (closing open_now outcome) (status_of outcome)) status mid new between now → SaidOneOf (λ a. a ≡ carried_out m) status old new before now
 played_out m outcome open_now status old mid new before between now took end line same some said =
     let is : answer (m.bytes ++ closing open_now outcome) (status_of outcome) ≡ carried_out m =
     ap₂ (λ (shut : List ℕ) (o : Outcome). answer (m.bytes ++ (shut ++ end_line o)) (status_of o)) (closes m.bytes open_now line) (sym end) in

@@ -17,6 +17,10 @@ use Rattle.cdc_top.specs.Schedule.{IsSchedule}
 use Rattle.cdc_top.specs.Sequential.{InputIs}
 use Rattle.cdc_top.specs.Source.{Source, IsSource, line}
 use Rattle.cdc_top.specs.Status.{IsFinished}
+use Rattle.cdc_prog.specs.Limits.{limit}
+use Rattle.cdc_prog.specs.declared.program.Kind.TheVariants as kind
+use Rattle.cdc_top.specs.declared.limits.TheConstants.{SCHEDULE_LIMIT}
+use Rattle.cdc_top.specs.declared.status.TheConstants.{NO_COMMAND, PROGRAM_REFUSED, INPUT_REFUSED, READ_FAULT, WRITE_FAULT, OUT_OF_MEMORY, DONE}
 
 -- a command by its words
 pub data Command : Type 0 where
@@ -59,31 +63,24 @@ pub record Files : Type 0 where
   pub input : List ℕ
   pub schedule : List ℕ
 
--- the limits of the three files, in bytes
-abbrev pub source_limit : ℕ
-source_limit = 262144
-
-abbrev pub schedule_limit : ℕ
-schedule_limit = 16777216
-
 -- a source within its limit that has the form
 pub record IsAccepted (bytes : List ℕ) (source : Source) : Type 0 where
-  pub within : length bytes ≤ source_limit
+  pub within : length bytes ≤ limit kind.Source
   pub is_source : IsSource bytes source
 
 -- a schedule within its limit that has the form, with its bound
 pub record IsHeader (bytes : List ℕ) (bound : ℕ) : Type 0 where
-  pub within : length bytes ≤ schedule_limit
+  pub within : length bytes ≤ SCHEDULE_LIMIT
   pub is_schedule : IsSchedule bytes bound
 
 abbrev pub source_refused : Answer
-source_refused = answer (line (codes "refused NotAStatement at line 1")) 3
+source_refused = answer (line (codes "refused NotAStatement at line 1")) PROGRAM_REFUSED
 
 abbrev pub input_refused : Answer
-input_refused = answer (line (codes "refused input at 1:1")) 4
+input_refused = answer (line (codes "refused input at 1:1")) INPUT_REFUSED
 
 abbrev pub schedule_refused : Answer
-schedule_refused = answer (line (codes "refused header line 1")) 4
+schedule_refused = answer (line (codes "refused header line 1")) INPUT_REFUSED
 
 -- a run prints its output and the lines on it, with the status of its end
 abbrev pub ran : Source → ℕ → Answer
@@ -105,11 +102,11 @@ RunAnswers files a =
 
 -- the first refusal of the program is answered; want of memory is no refusal
 abbrev pub IsRefusedWith : List ℕ → Answer → Type 0
-IsRefusedWith source a = (refusal : Refusal) × (refusal ≢ Memory) × IsProgramOf source (Err refusal) × (a ≡ answer (refusal_text refusal) 3)
+IsRefusedWith source a = (refusal : Refusal) × (refusal ≢ Memory) × IsProgramOf source (Err refusal) × (a ≡ answer (refusal_text refusal) PROGRAM_REFUSED)
 
 -- or that it is accepted, with its numbers
 abbrev pub CheckAnswers : List ℕ → Answer → Type 0
-CheckAnswers source a = IsRefusedWith source a ⊎ ((program : Program) × IsProgramOf source (Ok (program_of program)) × (a ≡ answer (accepted_text program) 0))
+CheckAnswers source a = IsRefusedWith source a ⊎ ((program : Program) × IsProgramOf source (Ok (program_of program)) × (a ≡ answer (accepted_text program) DONE))
 
 -- or the input is refused, or what the program prints on its records is answered, with its end
 abbrev pub SeqAnswers : List ℕ → List ℕ → Answer → Type 0
@@ -120,7 +117,7 @@ abbrev pub Answers : Command → Files → Answer → Type 0
 Answers (Run program input schedule) files a = RunAnswers files a
 Answers (Check program) files a = CheckAnswers files.program a
 Answers (Seq program input) files a = SeqAnswers files.program files.input a
-Answers Usage files a = a ≡ answer usage_text 2
+Answers Usage files a = a ≡ answer usage_text NO_COMMAND
 
 -- the bytes of a file, where they are told, are these
 abbrev pub IsTold : Option (List ℕ) → List ℕ → Type 0
@@ -157,11 +154,11 @@ pub record Ended (are_told : Files → Type 0) (answers only : Files → Answer 
   -- the status is the answer's, and the sink grew by the answer's bytes
   pub whole : IsFinished status → (a : Answer) × answers files a × only files a × (status ≡ a.status) × (new ≡ grown old a.bytes)
   -- a fault of the sink leaves a front of the answer's bytes
-  pub part : status ≡ 6 → (a : Answer) × answers files a × GrewByFront old new a.bytes
+  pub part : status ≡ WRITE_FAULT → (a : Answer) × answers files a × GrewByFront old new a.bytes
   -- a fault of a file and want of memory leave nothing
-  pub nothing : (status ≡ 5) ⊎ (status ≡ 7) → new ≡ old
-  pub read_fault : status ≡ 5 → failed files
-  pub write_fault : status ≡ 6 → Rose sink_before sink_now
+  pub nothing : (status ≡ READ_FAULT) ⊎ (status ≡ OUT_OF_MEMORY) → new ≡ old
+  pub read_fault : status ≡ READ_FAULT → failed files
+  pub write_fault : status ≡ WRITE_FAULT → Rose sink_before sink_now
   -- no fault is passed over
   pub quiet : IsFinished status → ((name : List ℕ) → now name ≡ before name) × (sink_now ≡ sink_before)
 
@@ -173,27 +170,11 @@ ToolEnded command told status old new before now sink_before sink_now =
 -- an answer was written whole, or a front of it where the sink failed, or nothing for want of memory
 pub record Said (a : Answer) (status : ℕ) (old new : Option (List ℕ)) (before now : ℕ) : Type 0 where
   pub whole : IsFinished status → (status ≡ a.status) × (new ≡ grown old a.bytes) × (now ≡ before)
-  pub part : status ≡ 6 → GrewByFront old new a.bytes × Rose before now
-  pub memory : status ≡ 7 → new ≡ old
-  pub reads : status ≢ 5
+  pub part : status ≡ WRITE_FAULT → GrewByFront old new a.bytes × Rose before now
+  pub memory : status ≡ OUT_OF_MEMORY → new ≡ old
+  pub reads : status ≢ READ_FAULT
 
 -- one of the answers was said, or memory ran out and nothing was written
 abbrev pub SaidOneOf : (Answer → Type 0) → ℕ → Option (List ℕ) → Option (List ℕ) → ℕ → ℕ → Type 0
 SaidOneOf answers status old new before now =
-    ((status ≡ 7) × (new ≡ old) × (now ≡ before)) ⊎ ((a : Answer) × answers a × Said a status old new before now)
-
--- The answer to the words was taken whole with its status, or a front of it after a fault of the sink, or nothing.
-pub record IsAnswered (command : Command) (told : List ℕ → Option (List ℕ)) (status : ℕ) (old new : Option (List ℕ)) : Type 0 where
-  pub files : Files
-  pub are_told : AreTold command told files
-  pub whole : IsFinished status → (a : Answer) × Answers command files a × Only (Answers command) files a × (status ≡ a.status) × (new ≡ grown old a.bytes)
-  pub part : status ≡ 6 → (a : Answer) × Answers command files a × GrewByFront old new a.bytes
-  pub nothing : (status ≡ 5) ⊎ (status ≡ 7) → new ≡ old
-
--- A fault is answered only where the count of a file or of the sink rose, and else no count moved.
-pub record IsCaused (command : Command) (told : List ℕ → Option (List ℕ)) (status : ℕ) (before now : List ℕ → ℕ) (sink_before sink_now : ℕ) : Type 0 where
-  pub files : Files
-  pub are_told : AreTold command told files
-  pub read_fault : status ≡ 5 → ReadFailed command files before now
-  pub write_fault : status ≡ 6 → Rose sink_before sink_now
-  pub quiet : IsFinished status → ((name : List ℕ) → now name ≡ before name) × (sink_now ≡ sink_before)
+    ((status ≡ OUT_OF_MEMORY) × (new ≡ old) × (now ≡ before)) ⊎ ((a : Answer) × answers a × Said a status old new before now)

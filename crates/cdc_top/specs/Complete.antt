@@ -9,6 +9,7 @@ use Rattle.cdc_top.specs.Answer.{Command, Run, Check, Seq, Usage, Files, IsAccep
 use Rattle.cdc_top.specs.Report.{outcome_of_end, status_of}
 use Rattle.cdc_top.specs.Sequential.{IsGoodInput}
 use Rattle.cdc_top.specs.Source.{Source}
+use Rattle.cdc_top.specs.declared.status.TheConstants.{DONE, NO_COMMAND, OUT_OF_MEMORY}
 
 -- the store tells the bytes of each file of the command
 abbrev pub AllTold : Command → (List ℕ → Option (List ℕ)) → Files → Type 0
@@ -45,11 +46,11 @@ AllStayed Usage before now = Unit {0}
 abbrev pub IsDone : Command → Files → (status : ℕ) → Type 0
 IsDone (Run program input schedule) files status =
     (source : Source) × (bound : ℕ) × IsAccepted files.program source × IsHeader files.schedule bound × (status ≡ (ran source bound).status)
-IsDone (Check program) files status = status ≡ 0
+IsDone (Check program) files status = status ≡ DONE
 IsDone (Seq program input) files status =
     (accepted : Program) × IsProgramOf files.program (Ok accepted) × (status ≡ status_of (outcome_of_end (meaning accepted (records_of files.input)).end))
-IsDone Usage files status = status ≡ 2
+IsDone Usage files status = status ≡ NO_COMMAND
 
 abbrev pub Completes : Command → (told : List ℕ → Option (List ℕ)) → (status : ℕ) → (before now : List ℕ → ℕ) → (sink_before sink_now : ℕ) → Type 0
 Completes command told status before now sink_before sink_now =
-    (files : Files) → AllTold command told files → AreGood command files → AllStayed command before now → Stayed sink_before sink_now → IsDone command files status ⊎ (status ≡ 7)
+    (files : Files) → AllTold command told files → AreGood command files → AllStayed command before now → Stayed sink_before sink_now → IsDone command files status ⊎ (status ≡ OUT_OF_MEMORY)

@@ -9,6 +9,7 @@ use Rattle.cdc_prog.specs.Lines.{is_open}
 use Rattle.cdc_top.specs.declared.machine.Outcome.{Outcome}
 use Rattle.cdc_top.specs.declared.machine.Outcome.TheVariants.{Done, Fault, Stopped}
 use Rattle.cdc_top.specs.declared.machine.Counts.{Counts}
+use Rattle.cdc_top.specs.declared.status.TheConstants.{DONE, FAULTED, STOPPED}
 use Rattle.cdc_top.specs.Machine.{Machine, State}
 
 -- the bytes that are printed, and the status
@@ -76,8 +77,8 @@ report machine bound = end_line (outcome_of machine) ++ (event_lines machine.eve
 abbrev pub printed : State → ℕ → List ℕ
 printed state bound = state.output ++ (line_end state.output ++ report state.machine bound)
 
--- 0 done, 1 a fault, 8 stopped
+-- by how the run or the program ended
 abbrev pub status_of : Outcome → ℕ
-status_of Done = 0
-status_of (Fault kind at) = 1
-status_of Stopped = 8
+status_of Done = DONE
+status_of (Fault kind at) = FAULTED
+status_of Stopped = STOPPED

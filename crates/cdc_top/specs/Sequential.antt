@@ -8,26 +8,24 @@ use Rattle.cdc_prog.specs.Meaning.{Meaning, meaning}
 use Rattle.cdc_prog.specs.Plain.{Program}
 use Rattle.cdc_top.specs.Report.{Answer, answer, joined, number, line_feed, line_end, end_line, outcome_of_end, status_of}
 use Rattle.cdc_top.specs.Source.{line}
-
--- the limit of an input, in bytes
-abbrev pub input_limit : ℕ
-input_limit = 1048576
+use Rattle.cdc_top.specs.declared.limits.TheConstants.{INPUT_LIMIT}
+use Rattle.cdc_top.specs.declared.status.TheConstants.{INPUT_REFUSED}
 
 -- an input within its limit without a fault
 pub record IsGoodInput (bytes : List ℕ) : Type 0 where
-  pub within : length bytes ≤ input_limit
+  pub within : length bytes ≤ INPUT_LIMIT
   pub no_fault : HasNoFault bytes
 
 -- an input within its limit, with its first fault
 pub record IsBadInput (bytes : List ℕ) (place : Place) : Type 0 where
-  pub within : length bytes ≤ input_limit
+  pub within : length bytes ≤ INPUT_LIMIT
   pub fails : Fails bytes (BadNumber place)
 
 abbrev pub input_too_long : Answer
-input_too_long = answer (line (codes "refused input over 1048576 bytes")) 4
+input_too_long = answer (line (codes "refused input over 1048576 bytes")) INPUT_REFUSED
 
 abbrev pub input_bad : Place → Answer
-input_bad place = answer (joined (codes "refused input at " ∷ number place.line ∷ codes ":" ∷ number place.column ∷ line_feed ∷ [])) 4
+input_bad place = answer (joined (codes "refused input at " ∷ number place.line ∷ codes ":" ∷ number place.column ∷ line_feed ∷ [])) INPUT_REFUSED
 
 -- the output, the line end that it may lack, and the line on the end, with the status of that end
 abbrev pub carried_out : Meaning → Answer
@@ -36,6 +34,6 @@ carried_out m = answer (m.bytes ++ (line_end m.bytes ++ end_line (outcome_of_end
 -- the input is refused, or the program is carried out on its records
 abbrev pub InputIs : Program → List ℕ → Answer → Type 0
 InputIs program bytes a =
-    ((input_limit < length bytes) × (a ≡ input_too_long))
+    ((INPUT_LIMIT < length bytes) × (a ≡ input_too_long))
     ⊎ (((place : Place) × IsBadInput bytes place × (a ≡ input_bad place))
     ⊎ (IsGoodInput bytes × (a ≡ carried_out (meaning program (records_of bytes)))))

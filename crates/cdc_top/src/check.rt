@@ -4,17 +4,17 @@ ghost use Rattle.cdc_compile.specs.Texts.{accepted_text, refusal_text};
 ghost use Rattle.cdc_top.specs.Answer.{Said, SaidOneOf, CheckAnswers};
 ghost use Rattle.cdc_top.specs.Report.{answer};
 
-use crate::status::{OUT_OF_MEMORY, PROGRAM_REFUSED, WRITE_FAULT};
+use crate::status::{DONE, OUT_OF_MEMORY, PROGRAM_REFUSED, WRITE_FAULT};
 use cdc_base::Sink;
 use cdc_compile::{Refusal, program, write_accepted, write_refusal};
 use cdc_prog::Program;
 use std::alloc::Global;
 
 fn say_accepted<K: Sink>(program: &Program, out: &mut K) -> u8
-    ensures { Said (answer (accepted_text program.now) 0) result (K.taken out.old) (K.taken out.new) (K.faults out.old) (K.faults out.new) }
+    ensures { Said (answer (accepted_text program.now) DONE) result (K.taken out.old) (K.taken out.new) (K.faults out.old) (K.faults out.new) }
 {
     match write_accepted(program, out) {
-        Ok(()) => 0,
+        Ok(()) => DONE,
         Err(_) => WRITE_FAULT,
     }
 }
@@ -22,7 +22,7 @@ fn say_accepted<K: Sink>(program: &Program, out: &mut K) -> u8
 /// Writes the text of a refusal.
 pub fn say_refused<K: Sink>(refusal: Refusal, out: &mut K) -> u8
     requires { IsNamed refusal }
-    ensures { Said (answer (refusal_text refusal) 3) result (K.taken out.old) (K.taken out.new) (K.faults out.old) (K.faults out.new) }
+    ensures { Said (answer (refusal_text refusal) PROGRAM_REFUSED) result (K.taken out.old) (K.taken out.new) (K.faults out.old) (K.faults out.new) }
 {
     match write_refusal(&refusal, out) {
         Ok(()) => PROGRAM_REFUSED,

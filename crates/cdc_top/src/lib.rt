@@ -17,4 +17,5 @@ mod tool;
 mod translate;
 
 use cdc_base::NoMemory;
+pub use status::{OUT_OF_MEMORY, READ_FAULT, WRITE_FAULT};
 pub use tool::run_tool;

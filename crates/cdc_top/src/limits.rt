@@ -1,7 +1,4 @@
-// The bytes that files may have.
-
-/// The bytes that a source may have.
-pub const SOURCE_LIMIT: u64 = 262_144;
+// The bytes that files may have; those of a source are a limit of programs, `cdc_prog::limit`.
 
 /// The bytes that an input may have.
 pub const INPUT_LIMIT: u64 = 1_048_576;

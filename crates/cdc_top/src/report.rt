@@ -5,6 +5,7 @@ ghost use Rattle.cdc_top.specs.Status.{IsFinished};
 ghost use Rattle.cdc_top.specs.Report.{kind_text, end_line, event_lines, count_line, report, status_of, outcome_of};
 
 use crate::machine::{Counts, Machine, Outcome};
+use crate::status::{DONE, FAULTED, STOPPED};
 use cdc_base::{Sink, SinkFault};
 use cdc_code::FaultKind;
 use cdc_text::{Text, write_texts, write_words};
@@ -172,8 +173,8 @@ pub fn status(outcome: Outcome) -> u8
     ensures finished { IsFinished result }
 {
     match outcome {
-        Outcome::Done => 0,
-        Outcome::Fault(_, _) => 1,
-        Outcome::Stopped => 8,
+        Outcome::Done => DONE,
+        Outcome::Fault(_, _) => FAULTED,
+        Outcome::Stopped => STOPPED,
     }
 }

@@ -8,10 +8,10 @@ ghost use Rattle.cdc_prog.specs.Resolved.{IsResolved, IsSerial};
 ghost use Rattle.cdc_prog.specs.Translation.{program_of};
 ghost use Rattle.cdc_top.specs.Answer.{Seq, SeqAnswers, IsTold, Ended, ToolEnded, Said, SaidOneOf};
 ghost use Rattle.cdc_top.specs.Report.{answer, end_line, status_of};
-ghost use Rattle.cdc_top.specs.Sequential.{InputIs, carried_out, input_bad, input_limit};
+ghost use Rattle.cdc_top.specs.Sequential.{InputIs, carried_out, input_bad};
 
 use crate::check::say_refused;
-use crate::limits::{INPUT_LIMIT, SOURCE_LIMIT};
+use crate::limits::INPUT_LIMIT;
 use crate::machine::Outcome;
 use crate::report::{status, write_closing};
 use crate::run::say;
@@ -21,13 +21,13 @@ use cdc_check::CheckRefusal;
 use cdc_compile::{Refusal, program};
 use cdc_input::{InputRecords, InputRefusal, records};
 use cdc_meaning::{Plain, run_lines};
-use cdc_prog::{Kind, Program};
+use cdc_prog::{Kind, Program, limit};
 use cdc_text::{Text, write_texts};
 use std::alloc::Global;
 
 // Writes the line end that an output may lack, and how the program ended.
 fn close<K: Sink>(is_open: bool, outcome: Outcome, out: &mut K) -> u8
-    ensures written { result ≢ 7 }
+    ensures written { result ≢ OUT_OF_MEMORY }
     ensures said { Said (answer ((if is_open then 10 ∷ [] else []) ++ end_line outcome) (status_of outcome)) result (K.taken out.old) (K.taken out.new) (K.faults out.old) (K.faults out.new) }
 {
     match write_closing(out, is_open, outcome) {
@@ -72,7 +72,7 @@ fn say_bad_input<K: Sink>(place: Place, out: &mut K) -> u8
 fn play_input<K: Sink>(alloc: Global, program: &Program, input: &[u8], out: &mut K) -> u8
     requires resolved { IsResolved (program_of program.now) }
     requires serial { IsSerial (program_of program.now) }
-    requires within { length input.now ≤ input_limit }
+    requires within { length input.now ≤ INPUT_LIMIT }
     ensures { SaidOneOf (InputIs (program_of program.now) input.now) result (K.taken out.old) (K.taken out.new) (K.faults out.old) (K.faults out.new) }
 {
     match records(alloc, input) {
@@ -137,7 +137,7 @@ pub fn seq_files<S: Store, K: Sink>(
     ensures { ToolEnded (Seq program.now input.now) (S.told store.old) result
         (K.taken out.old) (K.taken out.new) (S.faults store.old) (S.faults store.new) (K.faults out.old) (K.faults out.new) }
 {
-    match read_all(alloc, store, program, SOURCE_LIMIT) {
+    match read_all(alloc, store, program, limit(Kind::Source)) {
         Err(ReadRefusal::Memory) => OUT_OF_MEMORY,
         Err(ReadRefusal::Failed) => READ_FAULT,
         Err(ReadRefusal::TooLong) => {

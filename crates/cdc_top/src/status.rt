@@ -1,5 +1,11 @@
 // The statuses that a call of the tool may end with.
 
+/// The run or the program is done, or the program is accepted.
+pub const DONE: u8 = 0;
+
+/// The run or the program ended with a fault.
+pub const FAULTED: u8 = 1;
+
 /// The words are no command.
 pub const NO_COMMAND: u8 = 2;
 
@@ -17,3 +23,6 @@ pub const WRITE_FAULT: u8 = 6;
 
 /// Memory ran out, and nothing was written.
 pub const OUT_OF_MEMORY: u8 = 7;
+
+/// The run was stopped at its bound.
+pub const STOPPED: u8 = 8;

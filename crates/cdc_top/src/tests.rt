@@ -606,7 +606,7 @@ fn faults_end_the_call(rt: HostRuntime) -> Result<(), Fail> {
         (SEQ, 1, 0, 1000, 5, SIX),
         (SEQ, 3, 0, 1000, 5, SIX),
         (SEQ, 0, 1, 1000, 6, SIX),
-        (SEQ, 0, 3, 1000, 6, SIX),
+        (SEQ, 0, 2, 1000, 6, SIX),
         (SEQ, 0, 0, 3, 6, SIX),
     ] {
         let words = split_words(rt.alloc(), line)?;

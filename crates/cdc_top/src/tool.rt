@@ -1,7 +1,7 @@
 // The top call: one command of a command line.
 ghost use Rattle.std.specs.Prelude.{◌≡◌, ℕ, List, map, string_bytes};
 ghost use Rattle.cdc_base.specs.Causes.{Rose};
-ghost use Rattle.cdc_top.specs.Answer.{Usage, Run, Check, run_of, check_of, seq_of, command_of, is_name, IsAccepted, IsHeader, ScheduleAnswers, InputAnswers, InputFailed, IsTold, Only, Ended, ToolEnded, IsAnswered, IsCaused};
+ghost use Rattle.cdc_top.specs.Answer.{Usage, Run, Check, run_of, check_of, seq_of, command_of, is_name, IsAccepted, IsHeader, ScheduleAnswers, InputAnswers, InputFailed, IsTold, Only, Ended, ToolEnded};
 ghost use Rattle.cdc_top.specs.Chosen.{chosen};
 ghost use Rattle.cdc_top.specs.Complete.{Completes};
 ghost use Rattle.cdc_top.specs.Laws.{MeansTheSource, HitsGiveMemory};
@@ -9,7 +9,7 @@ ghost use Rattle.cdc_top.specs.Source.{Source as GivenSource};
 ghost use Rattle.cdc_top.specs.Words.{source_of};
 
 use crate::check::{check_source, say_refused};
-use crate::limits::{INPUT_LIMIT, SCHEDULE_LIMIT, SOURCE_LIMIT};
+use crate::limits::{INPUT_LIMIT, SCHEDULE_LIMIT};
 use crate::run::{run_source, say};
 use crate::schedule::read_schedule;
 use crate::seq::seq_files;
@@ -18,7 +18,7 @@ use crate::status::{INPUT_REFUSED, NO_COMMAND, OUT_OF_MEMORY, PROGRAM_REFUSED, R
 use cdc_base::{ReadRefusal, Sink, Store, read_all};
 use cdc_check::CheckRefusal;
 use cdc_compile::Refusal;
-use cdc_prog::Kind;
+use cdc_prog::{Kind, limit};
 use std::alloc::Global;
 
 const USAGE: &[u8] =
@@ -164,7 +164,7 @@ fn run_files<S: Store, K: Sink>(alloc: Global, names: Names<'_>, store: &mut S, 
     ensures { ToolEnded (Run names.entry.program.now names.entry.input.now names.entry.schedule.now) (S.told store.old) result
         (K.taken out.old) (K.taken out.new) (S.faults store.old) (S.faults store.new) (K.faults out.old) (K.faults out.new) }
 {
-    match read_all(alloc, store, names.program, SOURCE_LIMIT) {
+    match read_all(alloc, store, names.program, limit(Kind::Source)) {
         Err(ReadRefusal::Memory) => OUT_OF_MEMORY,
         Err(ReadRefusal::Failed) => READ_FAULT,
         Err(ReadRefusal::TooLong) => say(
@@ -184,7 +184,7 @@ fn check_file<S: Store, K: Sink>(alloc: Global, program: &str, store: &mut S, ou
     ensures { ToolEnded (Check program.now) (S.told store.old) result
         (K.taken out.old) (K.taken out.new) (S.faults store.old) (S.faults store.new) (K.faults out.old) (K.faults out.new) }
 {
-    match read_all(alloc, store, program, SOURCE_LIMIT) {
+    match read_all(alloc, store, program, limit(Kind::Source)) {
         Err(ReadRefusal::Memory) => OUT_OF_MEMORY,
         Err(ReadRefusal::Failed) => READ_FAULT,
         Err(ReadRefusal::TooLong) => {
@@ -227,11 +227,12 @@ pub fn run_tool<S: Store, K: Sink>(
     store: &mut S,
     out: &mut K,
 ) -> u8
-    ensures bytes_and_status { IsAnswered (command_of (map string_bytes words.now.items)) (S.told store.old) result (K.taken out.old) (K.taken out.new) }
+    ensures bytes_status_and_causes { ToolEnded (command_of (map string_bytes words.now.items)) (S.told store.old) result
+        (K.taken out.old) (K.taken out.new) (S.faults store.old) (S.faults store.new) (K.faults out.old) (K.faults out.new) }
     ensures meaning { MeansTheSource }
     ensures hits { HitsGiveMemory }
-    ensures completeness { Completes (command_of (map string_bytes words.now.items)) (S.told store.old) result (S.faults store.old) (S.faults store.new) (K.faults out.old) (K.faults out.new) }
-    ensures causes { IsCaused (command_of (map string_bytes words.now.items)) (S.told store.old) result (S.faults store.old) (S.faults store.new) (K.faults out.old) (K.faults out.new) }
+    ensures completeness { Completes (command_of (map string_bytes words.now.items)) (S.told store.old) result
+        (S.faults store.old) (S.faults store.new) (K.faults out.old) (K.faults out.new) }
 {
     carry_out(alloc, words, store, out)
 }

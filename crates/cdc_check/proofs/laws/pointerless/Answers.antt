@@ -1,5 +1,6 @@
-use Rattle.cdc_check.proofs.Alike.{same_checked}
+use Rattle.std.proofs.Common.{ap}
+use Rattle.cdc_check.specs.Check.{checked}
 use Rattle.cdc_check.proofs.laws.pointerless.Goals as goal
 
 pub returns : goal.returns
-returns c = same_checked
+returns c us vs same = ap checked same

@@ -1,12 +1,22 @@
-use Rattle.std.proofs.Common.{subst}
+use Rattle.std.proofs.Common.{◌<◌, map, length, List, sym, subst}
+use Rattle.std.proofs.lemmas.List.{length-map}
+use Rattle.cdc_tree.specs.declared.unit.UnitText.{UnitText}
+use Rattle.cdc_tree.specs.Units.{unit}
 use Rattle.cdc_check.specs.Check.{checked}
 use Rattle.cdc_check.specs.Refusals.{Answers}
 use Rattle.cdc_prog.specs.Translation.{program_of}
-use Rattle.cdc_check.proofs.Accepted.{answers_resolved, answers_serial}
+use Rattle.cdc_check.proofs.Accepted.{answers_resolved, answers_serial, answers_keep}
 use Rattle.cdc_check.proofs.program.check.Goals as goal
 
 pub returns-clause-resolved : goal.returns-clause-resolved
-returns-clause-resolved c = answers_resolved c.args.units.now c.program.result (subst (λ us. Answers program_of c.program.result (checked us)) c.as_slice.ensures c.program.ensures)
+returns-clause-resolved c =
+    let some : 0 < length (map unit c.args.units.now) = subst (λ n. 0 < n) (sym (length-map c.args.units.now unit)) c.requires.some in
+    answers_resolved (map unit c.args.units.now) c.program.result (subst (λ (us : List UnitText). Answers program_of c.program.result (checked (map unit us))) c.as_slice.ensures c.program.ensures) c.requires.built some
 
 pub returns-clause-serial : goal.returns-clause-serial
-returns-clause-serial c = answers_serial c.args.units.now c.program.result (subst (λ us. Answers program_of c.program.result (checked us)) c.as_slice.ensures c.program.ensures)
+returns-clause-serial c =
+    answers_serial (map unit c.args.units.now) c.program.result (subst (λ (us : List UnitText). Answers program_of c.program.result (checked (map unit us))) c.as_slice.ensures c.program.ensures) c.requires.built
+
+pub returns-clause-keeps : goal.returns-clause-keeps
+returns-clause-keeps c =
+    answers_keep (map unit c.args.units.now) c.program.result (subst (λ (us : List UnitText). Answers program_of c.program.result (checked (map unit us))) c.as_slice.ensures c.program.ensures) c.requires.built

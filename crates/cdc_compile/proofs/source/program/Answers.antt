@@ -1,9 +1,10 @@
-use Rattle.cdc_compile.proofs.Nested.{some_units, no_lists}
+use Rattle.std.proofs.Common.{map}
+use Rattle.cdc_tree.specs.Units.{unit}
+use Rattle.cdc_compile.proofs.Nested.{some_units, are_built}
 use Rattle.cdc_compile.proofs.source.program.Goals as goal
 
-pub returns-clause-resolved : goal.returns-clause-resolved
-returns-clause-resolved c =
-    c.in_ok-check.ensures.resolved (no_lists c.args.source.now c.in_ok-units.units c.in_ok-units.ensures.units) (some_units c.args.source.now c.in_ok-units.units c.in_ok-units.ensures.units)
-
-pub returns-clause-serial : goal.returns-clause-serial
-returns-clause-serial c = c.in_ok-check.ensures.serial (no_lists c.args.source.now c.in_ok-units.units c.in_ok-units.ensures.units)
+pub check-requires : goal.check-requires
+check-requires c = record {
+  built = are_built c.args.source.now (map unit c.in_ok-units.units) c.in_ok-units.ensures.units;
+  some = some_units c.args.source.now c.in_ok-units.units c.in_ok-units.ensures.units;
+}

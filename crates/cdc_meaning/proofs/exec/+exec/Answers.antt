@@ -9,9 +9,9 @@ use Rattle.cdc_prog.specs.Statements.{stmt, assign, branch, raise, turns, counte
 use Rattle.cdc_prog.specs.Translation.{expr_of, target_of, item_of, control_of, stmt_of, stmts_of, arms_of, program_of}
 use Rattle.cdc_prog.proofs.Translated.{at_assign, at_do, at_print, at_read}
 use Rattle.cdc_meaning.specs.Frames.{shapes_of, binding}
-use Rattle.cdc_meaning.specs.Runs.{Same, around, store_of}
-use Rattle.cdc_meaning.specs.Unread.{left_of}
-use Rattle.cdc_meaning.specs.Carried.{state, Follows}
+use Rattle.cdc_prog.specs.Held.{Same, around, store_of}
+use Rattle.cdc_prog.specs.Unread.{left_of}
+use Rattle.cdc_meaning.specs.Carried.{output_of, state, Follows}
 use Rattle.cdc_meaning.specs.Loops.{turns_left}
 use Rattle.cdc_meaning.proofs.Comes.{follows_after, comes_after, exits, faults, begun, ticked, same_follows, none_left}
 use Rattle.cdc_meaning.proofs.Statements.{one_statement, one_arm, is_taken, is_passed, one_turn, no_turn, each_image}
@@ -27,10 +27,10 @@ exec_all-returns-in_err-exec g t c = λ calls rest.
     let a = c.args in
     let d = around a.slots.now (left_of a.streams.now.unread) in
     let e = around l.slots (left_of l.streams.unread) in
-    let x = state a.words.now a.slots.now (left_of a.streams.now.unread) (g.K.Sink.taken a.out.now) a.streams.now.is_open (g.K.Sink.faults a.out.now) in
-    let y = state l.words l.slots (left_of l.streams.unread) (g.K.Sink.taken l.out) l.streams.is_open (g.K.Sink.faults l.out) in
+    let x = state a.words.now a.slots.now (left_of a.streams.now.unread) (output_of (g.K.Sink.taken a.out.now) a.streams.now.page (g.K.Sink.faults a.out.now)) in
+    let y = state l.words l.slots (left_of l.streams.unread) (output_of (g.K.Sink.taken l.out) l.streams.page (g.K.Sink.faults l.out)) in
     let n = c.exec.new in
-    let z = state n.words n.slots (left_of n.streams.unread) (g.K.Sink.taken n.out) n.streams.is_open (g.K.Sink.faults n.out) in
+    let z = state n.words n.slots (left_of n.streams.unread) (output_of (g.K.Sink.taken n.out) n.streams.page (g.K.Sink.faults n.out)) in
     let p = stmt calls b (stmts_of a.statements.now) d rest in
     let more = stmts_of (drop (i + 1) a.statements.now) in
     let k = λ (f : Surroundings). stmt calls b more f rest in
@@ -47,8 +47,8 @@ exec_all-loop-statement-preserved g t c =
     let a = c.args in
     let d = around a.slots.now (left_of a.streams.now.unread) in
     let e = around l.slots (left_of l.streams.unread) in
-    let x = state a.words.now a.slots.now (left_of a.streams.now.unread) (g.K.Sink.taken a.out.now) a.streams.now.is_open (g.K.Sink.faults a.out.now) in
-    let y = state l.words l.slots (left_of l.streams.unread) (g.K.Sink.taken l.out) l.streams.is_open (g.K.Sink.faults l.out) in
+    let x = state a.words.now a.slots.now (left_of a.streams.now.unread) (output_of (g.K.Sink.taken a.out.now) a.streams.now.page (g.K.Sink.faults a.out.now)) in
+    let y = state l.words l.slots (left_of l.streams.unread) (output_of (g.K.Sink.taken l.out) l.streams.page (g.K.Sink.faults l.out)) in
     let more = stmts_of (drop (i + 1) a.statements.now) in
     let is = one_statement a.statements.now i c.statement-item.result (omega arith) c.statement-item.is in
     record {
@@ -68,8 +68,8 @@ exec_all-returns g t c = λ calls rest.
     let a = c.args in
     let d = around a.slots.now (left_of a.streams.now.unread) in
     let e = around l.slots (left_of l.streams.unread) in
-    let x = state a.words.now a.slots.now (left_of a.streams.now.unread) (g.K.Sink.taken a.out.now) a.streams.now.is_open (g.K.Sink.faults a.out.now) in
-    let y = state l.words l.slots (left_of l.streams.unread) (g.K.Sink.taken l.out) l.streams.is_open (g.K.Sink.faults l.out) in
+    let x = state a.words.now a.slots.now (left_of a.streams.now.unread) (output_of (g.K.Sink.taken a.out.now) a.streams.now.page (g.K.Sink.faults a.out.now)) in
+    let y = state l.words l.slots (left_of l.streams.unread) (output_of (g.K.Sink.taken l.out) l.streams.page (g.K.Sink.faults l.out)) in
     let p = stmt calls b (stmts_of a.statements.now) d rest in
     let is = ap stmts_of (none_left a.statements.now l.statement-index (omega arith)) in
     subst (λ (q : plain.Stmt). Follows texts p x (stmt calls b q e rest) y) is (l.invariant.follows calls rest)
@@ -83,13 +83,13 @@ exec-returns-in_err-assign-in-Assign g t c = λ calls rest.
     let s = c.in-Assign in
     let left = left_of a.streams.now.unread in
     let d = around a.slots.now left in
-    let x = state a.words.now a.slots.now left (g.K.Sink.taken a.out.now) a.streams.now.is_open (g.K.Sink.faults a.out.now) in
+    let x = state a.words.now a.slots.now left (output_of (g.K.Sink.taken a.out.now) a.streams.now.page (g.K.Sink.faults a.out.now)) in
     let n = c.assign.new in
-    let z = state n.words n.slots left (g.K.Sink.taken a.out.now) a.streams.now.is_open (g.K.Sink.faults a.out.now) in
+    let z = state n.words n.slots left (output_of (g.K.Sink.taken a.out.now) a.streams.now.page (g.K.Sink.faults a.out.now)) in
     let p = stmt calls b (stmt_of a.statement.now) d rest in
     let q = assign b s.line (target_of s.target) (expr_of s.value) d rest in
     let is = ap (λ (w : plain.Stmt). stmt calls b w d rest) (ap stmt_of s.is ∙ at_assign s.line s.target s.value) in
-    faults texts p q (rest z.around) x x z c.from_residual.result c.in_err-assign-in-Assign.field-0.0 (r.1 ∙ ap Err r.2) (begun texts is) (c.in_err-assign-in-Assign.ensures left rest) refl refl
+    faults texts p q (rest z.around) x x z c.from_residual.result c.in_err-assign-in-Assign.field-0.0 (r.1 ∙ ap Err r.2) (begun texts is) (c.in_err-assign-in-Assign.ensures left rest) refl
 
 pub exec-value-requires-clause-fits : goal.exec-value-requires-clause-fits
 exec-value-requires-clause-fits g t c =
@@ -112,14 +112,14 @@ exec-returns-in_err-holds-in-If g t c = λ calls rest.
     let left = left_of l.streams.unread in
     let d = around a.slots.now (left_of a.streams.now.unread) in
     let e = around l.slots left in
-    let x = state a.words.now a.slots.now (left_of a.streams.now.unread) (g.K.Sink.taken a.out.now) a.streams.now.is_open (g.K.Sink.faults a.out.now) in
-    let y = state l.words l.slots left (g.K.Sink.taken l.out) l.streams.is_open (g.K.Sink.faults l.out) in
+    let x = state a.words.now a.slots.now (left_of a.streams.now.unread) (output_of (g.K.Sink.taken a.out.now) a.streams.now.page (g.K.Sink.faults a.out.now)) in
+    let y = state l.words l.slots left (output_of (g.K.Sink.taken l.out) l.streams.page (g.K.Sink.faults l.out)) in
     let p = stmt calls b (stmt_of a.statement.now) d rest in
     let is = one_arm arms others l.arm-index arm (omega arith) c.arm-item.is in
     let k = λ (v : ℤ). branch v (stmt calls b (stmts_of arm.body) e rest) (stmt calls b more e rest) in
     let q = expr b arm.line (expr_of arm.cond) e k in
     let here = subst (λ (w : plain.Stmt). Follows texts p x (stmt calls b w e rest) y) is (l.invariant.follows calls rest) in
-    faults texts p q (rest e) x y y c.from_residual-in_err-holds-in-If.result c.in_err-holds-in-If.field-0.0 (r.1 ∙ ap Err r.2) (follows_after texts here (ticked texts)) (c.in_err-holds-in-If.ensures left k) refl refl
+    faults texts p q (rest e) x y y c.from_residual-in_err-holds-in-If.result c.in_err-holds-in-If.field-0.0 (r.1 ∙ ap Err r.2) (follows_after texts here (ticked texts)) (c.in_err-holds-in-If.ensures left k) refl
 
 pub exec-returns-then-holds-ne0 : goal.exec-returns-then-holds-ne0
 exec-returns-then-holds-ne0 g t c = λ calls rest.
@@ -134,10 +134,10 @@ exec-returns-then-holds-ne0 g t c = λ calls rest.
     let left = left_of l.streams.unread in
     let d = around a.slots.now (left_of a.streams.now.unread) in
     let e = around l.slots left in
-    let x = state a.words.now a.slots.now (left_of a.streams.now.unread) (g.K.Sink.taken a.out.now) a.streams.now.is_open (g.K.Sink.faults a.out.now) in
-    let y = state l.words l.slots left (g.K.Sink.taken l.out) l.streams.is_open (g.K.Sink.faults l.out) in
+    let x = state a.words.now a.slots.now (left_of a.streams.now.unread) (output_of (g.K.Sink.taken a.out.now) a.streams.now.page (g.K.Sink.faults a.out.now)) in
+    let y = state l.words l.slots left (output_of (g.K.Sink.taken l.out) l.streams.page (g.K.Sink.faults l.out)) in
     let n = c.exec_all.new in
-    let z = state n.words n.slots (left_of n.streams.unread) (g.K.Sink.taken n.out) n.streams.is_open (g.K.Sink.faults n.out) in
+    let z = state n.words n.slots (left_of n.streams.unread) (output_of (g.K.Sink.taken n.out) n.streams.page (g.K.Sink.faults n.out)) in
     let p = stmt calls b (stmt_of a.statement.now) d rest in
     let is = one_arm arms others l.arm-index arm (omega arith) c.arm-item.is in
     let taken = stmt calls b (stmts_of arm.body) e rest in
@@ -148,7 +148,7 @@ exec-returns-then-holds-ne0 g t c = λ calls rest.
     let v = c.in_ok-holds-in-If.holds in
     let some : v ≡ pos 0 → ⊥ = search rules in
     let chosen = subst (λ (w : Process). Same q (store_of l.words) w (store_of l.words)) (is_taken v taken passed some) (c.in_ok-holds-in-If.ensures left k) in
-    comes_after texts p taken (rest z.around) x y z c.exec_all.result (follows_after texts here (same_follows texts chosen refl refl)) (rw c.as_slice.ensures at (c.exec_all.ensures calls rest))
+    comes_after texts p taken (rest z.around) x y z c.exec_all.result (follows_after texts here (same_follows texts chosen refl)) (rw c.as_slice.ensures at (c.exec_all.ensures calls rest))
 
 pub exec-loop-arm-preserved : goal.exec-loop-arm-preserved
 exec-loop-arm-preserved g t c =
@@ -163,8 +163,8 @@ exec-loop-arm-preserved g t c =
     let left = left_of l.streams.unread in
     let d = around a.slots.now (left_of a.streams.now.unread) in
     let e = around l.slots left in
-    let x = state a.words.now a.slots.now (left_of a.streams.now.unread) (g.K.Sink.taken a.out.now) a.streams.now.is_open (g.K.Sink.faults a.out.now) in
-    let y = state l.words l.slots left (g.K.Sink.taken l.out) l.streams.is_open (g.K.Sink.faults l.out) in
+    let x = state a.words.now a.slots.now (left_of a.streams.now.unread) (output_of (g.K.Sink.taken a.out.now) a.streams.now.page (g.K.Sink.faults a.out.now)) in
+    let y = state l.words l.slots left (output_of (g.K.Sink.taken l.out) l.streams.page (g.K.Sink.faults l.out)) in
     let is = one_arm arms others l.arm-index arm (omega arith) c.arm-item.is in
     let v = c.in_ok-holds-in-If.holds in
     let none : v ≡ pos 0 = search rules in
@@ -179,7 +179,7 @@ exec-loop-arm-preserved g t c =
           let q = expr b arm.line (expr_of arm.cond) e k in
           let here = follows_after texts (subst (λ (w : plain.Stmt). Follows texts p x (stmt calls b w e rest) y) is (l.invariant.follows calls rest)) (ticked texts) in
           let chosen = subst (λ (w : Process). Same q (store_of l.words) w (store_of l.words)) (is_passed v taken passed none) (c.in_ok-holds-in-If.ensures left k) in
-          follows_after texts here (same_follows texts chosen refl refl);
+          follows_after texts here (same_follows texts chosen refl);
     }
 
 pub exec-returns-after-loop-arm : goal.exec-returns-after-loop-arm
@@ -191,10 +191,10 @@ exec-returns-after-loop-arm g t c = λ calls rest.
     let others = stmts_of c.in-If.other in
     let d = around a.slots.now (left_of a.streams.now.unread) in
     let e = around l.slots (left_of l.streams.unread) in
-    let x = state a.words.now a.slots.now (left_of a.streams.now.unread) (g.K.Sink.taken a.out.now) a.streams.now.is_open (g.K.Sink.faults a.out.now) in
-    let y = state l.words l.slots (left_of l.streams.unread) (g.K.Sink.taken l.out) l.streams.is_open (g.K.Sink.faults l.out) in
+    let x = state a.words.now a.slots.now (left_of a.streams.now.unread) (output_of (g.K.Sink.taken a.out.now) a.streams.now.page (g.K.Sink.faults a.out.now)) in
+    let y = state l.words l.slots (left_of l.streams.unread) (output_of (g.K.Sink.taken l.out) l.streams.page (g.K.Sink.faults l.out)) in
     let n = c.exec_all-in-If.new in
-    let z = state n.words n.slots (left_of n.streams.unread) (g.K.Sink.taken n.out) n.streams.is_open (g.K.Sink.faults n.out) in
+    let z = state n.words n.slots (left_of n.streams.unread) (output_of (g.K.Sink.taken n.out) n.streams.page (g.K.Sink.faults n.out)) in
     let p = stmt calls b (stmt_of a.statement.now) d rest in
     let is = ap (λ k. arms_of k others) (none_left c.as_slice-arm-items.result.now l.arm-index (omega arith)) in
     comes_after texts p (stmt calls b others e rest) (rest z.around) x y z c.exec_all-in-If.result
@@ -210,15 +210,15 @@ exec-returns-in_err-turns-in-Do g t c = λ calls rest.
     let o = c.in-Do in
     let left = left_of a.streams.now.unread in
     let d = around a.slots.now left in
-    let x = state a.words.now a.slots.now left (g.K.Sink.taken a.out.now) a.streams.now.is_open (g.K.Sink.faults a.out.now) in
+    let x = state a.words.now a.slots.now left (output_of (g.K.Sink.taken a.out.now) a.streams.now.page (g.K.Sink.faults a.out.now)) in
     let n = c.begin.new in
-    let z = state n.words n.slots left (g.K.Sink.taken a.out.now) a.streams.now.is_open (g.K.Sink.faults a.out.now) in
+    let z = state n.words n.slots left (output_of (g.K.Sink.taken a.out.now) a.streams.now.page (g.K.Sink.faults a.out.now)) in
     let p = stmt calls b (stmt_of a.statement.now) d rest in
     let body = stmt calls b (stmts_of o.body) in
     let q = counted b (control_of o.control) o.first o.again o.bump body d rest in
     let is = ap (λ (w : plain.Stmt). stmt calls b w d rest) (ap stmt_of o.is ∙ at_do o.control o.first o.body o.again o.bump) in
     let h = c.in_err-turns-in-Do.ensures.begins left body rest in
-    faults texts p q (rest z.around) x x z c.from_residual-in_err-turns-in-Do.result c.in_err-turns-in-Do.field-0.0 (r.1 ∙ ap Err r.2) (begun texts is) (record { output = h.output; ends = h.ends }) refl refl
+    faults texts p q (rest z.around) x x z c.from_residual-in_err-turns-in-Do.result c.in_err-turns-in-Do.field-0.0 (r.1 ∙ ap Err r.2) (begun texts is) (record { output = h.output; ends = h.ends }) refl
 
 pub exec-returns-in_ok-turns-in-Do : goal.exec-returns-in_ok-turns-in-Do
 exec-returns-in_ok-turns-in-Do g t c = λ calls rest.
@@ -231,15 +231,15 @@ exec-returns-in_ok-turns-in-Do g t c = λ calls rest.
     let d = around a.slots.now left in
     let m = c.begin.new in
     let e = around m.slots left in
-    let x = state a.words.now a.slots.now left (g.K.Sink.taken a.out.now) a.streams.now.is_open (g.K.Sink.faults a.out.now) in
-    let y = state m.words m.slots left (g.K.Sink.taken a.out.now) a.streams.now.is_open (g.K.Sink.faults a.out.now) in
+    let x = state a.words.now a.slots.now left (output_of (g.K.Sink.taken a.out.now) a.streams.now.page (g.K.Sink.faults a.out.now)) in
+    let y = state m.words m.slots left (output_of (g.K.Sink.taken a.out.now) a.streams.now.page (g.K.Sink.faults a.out.now)) in
     let n = c.repeat.new in
-    let z = state n.words n.slots (left_of n.streams.unread) (g.K.Sink.taken n.out) n.streams.is_open (g.K.Sink.faults n.out) in
+    let z = state n.words n.slots (left_of n.streams.unread) (output_of (g.K.Sink.taken n.out) n.streams.page (g.K.Sink.faults n.out)) in
     let p = stmt calls b (stmt_of a.statement.now) d rest in
     let body = stmt calls b (stmts_of o.body) in
     let is = ap (λ (v : plain.Stmt). stmt calls b v d rest) (ap stmt_of o.is ∙ at_do o.control o.first o.body o.again o.bump) in
     comes_after texts p (turns_left w.count b w body e rest) (rest z.around) x y z c.repeat.result
-    (follows_after texts (begun texts is) (same_follows texts (c.in_ok-turns-in-Do.ensures.begins left body rest) refl refl))
+    (follows_after texts (begun texts is) (same_follows texts (c.in_ok-turns-in-Do.ensures.begins left body rest) refl))
     (rw c.as_slice-in-Do.ensures at (c.repeat.ensures calls rest))
 
 pub exec-print-requires-clause-fits : goal.exec-print-requires-clause-fits
@@ -264,8 +264,8 @@ exec-returns-in-Print g t c = λ calls rest.
     let o = c.in-Print in
     let left = left_of a.streams.now.unread in
     let d = around a.slots.now left in
-    let x = state a.words.now a.slots.now left (g.K.Sink.taken a.out.now) a.streams.now.is_open (g.K.Sink.faults a.out.now) in
-    let z = state a.words.now a.slots.now left (g.K.Sink.taken c.print.new.out) c.print.new.is_open (g.K.Sink.faults c.print.new.out) in
+    let x = state a.words.now a.slots.now left (output_of (g.K.Sink.taken a.out.now) a.streams.now.page (g.K.Sink.faults a.out.now)) in
+    let z = state a.words.now a.slots.now left (output_of (g.K.Sink.taken c.print.new.out) c.print.new.page (g.K.Sink.faults c.print.new.out)) in
     let p = stmt calls b (stmt_of a.statement.now) d rest in
     let q = items b o.line true (map item_of o.items) d (rest d) in
     let is = ap (λ (w : plain.Stmt). stmt calls b w d rest) (ap stmt_of o.is ∙ at_print o.line o.items) in
@@ -280,10 +280,10 @@ repeat-returns-in_err-exec_all g t c = λ calls rest.
     let l = c.loop in
     let body = stmt calls b (stmts_of a.body.now) in
     let raised = raise b a.turns.line a.turns.again a.turns.bump a.turns.by in
-    let x = state a.words.now a.slots.now (left_of a.streams.now.unread) (g.K.Sink.taken a.out.now) a.streams.now.is_open (g.K.Sink.faults a.out.now) in
-    let y = state l.words l.slots (left_of l.streams.unread) (g.K.Sink.taken l.out) l.streams.is_open (g.K.Sink.faults l.out) in
+    let x = state a.words.now a.slots.now (left_of a.streams.now.unread) (output_of (g.K.Sink.taken a.out.now) a.streams.now.page (g.K.Sink.faults a.out.now)) in
+    let y = state l.words l.slots (left_of l.streams.unread) (output_of (g.K.Sink.taken l.out) l.streams.page (g.K.Sink.faults l.out)) in
     let n = c.exec_all.new in
-    let z = state n.words n.slots (left_of n.streams.unread) (g.K.Sink.taken n.out) n.streams.is_open (g.K.Sink.faults n.out) in
+    let z = state n.words n.slots (left_of n.streams.unread) (output_of (g.K.Sink.taken n.out) n.streams.page (g.K.Sink.faults n.out)) in
     let p = turns a.turns.count body raised x.around rest in
     let k = λ (d : Surroundings). raised d (λ e. turns (a.turns.count - (l.counter + 1)) body raised e rest) in
     exits texts p (body y.around k) (k z.around) (rest z.around) x y z c.from_residual.result _ (r.1 ∙ ap Err r.2)
@@ -298,18 +298,18 @@ repeat-returns-in_err-raise g t c = λ calls rest.
     let l = c.loop in
     let body = stmt calls b (stmts_of a.body.now) in
     let raised = raise b a.turns.line a.turns.again a.turns.bump a.turns.by in
-    let x = state a.words.now a.slots.now (left_of a.streams.now.unread) (g.K.Sink.taken a.out.now) a.streams.now.is_open (g.K.Sink.faults a.out.now) in
-    let y = state l.words l.slots (left_of l.streams.unread) (g.K.Sink.taken l.out) l.streams.is_open (g.K.Sink.faults l.out) in
+    let x = state a.words.now a.slots.now (left_of a.streams.now.unread) (output_of (g.K.Sink.taken a.out.now) a.streams.now.page (g.K.Sink.faults a.out.now)) in
+    let y = state l.words l.slots (left_of l.streams.unread) (output_of (g.K.Sink.taken l.out) l.streams.page (g.K.Sink.faults l.out)) in
     let n = c.exec_all.new in
     let left = left_of n.streams.unread in
-    let z = state n.words n.slots left (g.K.Sink.taken n.out) n.streams.is_open (g.K.Sink.faults n.out) in
+    let z = state n.words n.slots left (output_of (g.K.Sink.taken n.out) n.streams.page (g.K.Sink.faults n.out)) in
     let m = c.raise.new in
-    let w = state m.words m.slots left (g.K.Sink.taken n.out) n.streams.is_open (g.K.Sink.faults n.out) in
+    let w = state m.words m.slots left (output_of (g.K.Sink.taken n.out) n.streams.page (g.K.Sink.faults n.out)) in
     let p = turns a.turns.count body raised x.around rest in
     let later = λ (e : Surroundings). turns (a.turns.count - (l.counter + 1)) body raised e rest in
     let k = λ (d : Surroundings). raised d later in
     let here = follows_after texts (one_turn texts a.turns.count l.counter body raised rest p x y (omega arith) (l.invariant calls rest)) (c.in_ok-exec_all.ensures calls k) in
-    faults texts p (k z.around) (rest w.around) x z w c.from_residual-in_err-raise.result c.in_err-raise.field-0.0 (r.1 ∙ ap Err r.2) here (c.in_err-raise.ensures left later) refl refl
+    faults texts p (k z.around) (rest w.around) x z w c.from_residual-in_err-raise.result c.in_err-raise.field-0.0 (r.1 ∙ ap Err r.2) here (c.in_err-raise.ensures left later) refl
 
 pub repeat-loop-preserved : goal.repeat-loop-preserved
 repeat-loop-preserved g t c = λ calls rest.
@@ -319,14 +319,14 @@ repeat-loop-preserved g t c = λ calls rest.
     let l = c.loop in
     let body = stmt calls b (stmts_of a.body.now) in
     let raised = raise b a.turns.line a.turns.again a.turns.bump a.turns.by in
-    let x = state a.words.now a.slots.now (left_of a.streams.now.unread) (g.K.Sink.taken a.out.now) a.streams.now.is_open (g.K.Sink.faults a.out.now) in
-    let y = state l.words l.slots (left_of l.streams.unread) (g.K.Sink.taken l.out) l.streams.is_open (g.K.Sink.faults l.out) in
+    let x = state a.words.now a.slots.now (left_of a.streams.now.unread) (output_of (g.K.Sink.taken a.out.now) a.streams.now.page (g.K.Sink.faults a.out.now)) in
+    let y = state l.words l.slots (left_of l.streams.unread) (output_of (g.K.Sink.taken l.out) l.streams.page (g.K.Sink.faults l.out)) in
     let left = left_of c.exec_all.new.streams.unread in
     let p = turns a.turns.count body raised x.around rest in
     let later = λ (e : Surroundings). turns (a.turns.count - (l.counter + 1)) body raised e rest in
     let k = λ (d : Surroundings). raised d later in
     let here = follows_after texts (one_turn texts a.turns.count l.counter body raised rest p x y (omega arith) (l.invariant calls rest)) (c.in_ok-exec_all.ensures calls k) in
-    follows_after texts here (same_follows texts (c.in_ok-raise.ensures left later) refl refl)
+    follows_after texts here (same_follows texts (c.in_ok-raise.ensures left later) refl)
 
 pub repeat-returns : goal.repeat-returns
 repeat-returns g t c = λ calls rest.
@@ -336,7 +336,7 @@ repeat-returns g t c = λ calls rest.
     let l = c.loop in
     let body = stmt calls b (stmts_of a.body.now) in
     let raised = raise b a.turns.line a.turns.again a.turns.bump a.turns.by in
-    let x = state a.words.now a.slots.now (left_of a.streams.now.unread) (g.K.Sink.taken a.out.now) a.streams.now.is_open (g.K.Sink.faults a.out.now) in
-    let y = state l.words l.slots (left_of l.streams.unread) (g.K.Sink.taken l.out) l.streams.is_open (g.K.Sink.faults l.out) in
+    let x = state a.words.now a.slots.now (left_of a.streams.now.unread) (output_of (g.K.Sink.taken a.out.now) a.streams.now.page (g.K.Sink.faults a.out.now)) in
+    let y = state l.words l.slots (left_of l.streams.unread) (output_of (g.K.Sink.taken l.out) l.streams.page (g.K.Sink.faults l.out)) in
     let p = turns a.turns.count body raised x.around rest in
     no_turn texts a.turns.count l.counter body raised rest p x y (omega arith) (l.invariant calls rest)

@@ -4,8 +4,8 @@ use Rattle.cdc_prog.specs.Expressions.{Surroundings}
 use Rattle.cdc_prog.specs.Statements.{reads}
 use Rattle.cdc_prog.specs.Translation.{target_of}
 use Rattle.cdc_meaning.specs.Frames.{binding}
-use Rattle.cdc_meaning.specs.Runs.{Same, store_of, around}
-use Rattle.cdc_meaning.specs.Unread.{left_of}
+use Rattle.cdc_prog.specs.Held.{Same, store_of, around}
+use Rattle.cdc_prog.specs.Unread.{left_of}
 use Rattle.cdc_meaning.proofs.read.read.Given as goal
 
 abbrev pub invariant-loop-target : goal.invariant-loop-target

@@ -1,17 +1,23 @@
-use Rattle.std.proofs.Common.{◌≡◌, ◌-◌, false, List, [], length, refl, ap, ◌∙◌, sym, subst}
+use Rattle.std.proofs.Common.{◌≡◌, ◌<◌, ◌-◌, List, [], ◌∷◌, length, ap, ◌∙◌, sym, subst}
+use Rattle.cdc_prog.specs.Data.{zeros}
 use Rattle.cdc_prog.specs.Process.{Halt}
 use Rattle.cdc_prog.specs.declared.program.Dim.{Dim}
-use Rattle.cdc_prog.specs.Meaning.{meaning}
+use Rattle.cdc_prog.specs.InOrder.{output, ends}
+use Rattle.cdc_prog.specs.Meaning.{Meaning, bytes_of, meaning}
 use Rattle.cdc_prog.specs.Bodies.{HasOnly}
 use Rattle.cdc_prog.specs.Resolved.{StmtFits}
 use Rattle.cdc_prog.specs.Units.{body_of, unit, process_of}
-use Rattle.cdc_prog.specs.Statements.{stmt}
+use Rattle.cdc_prog.specs.Statements.{Calls, stmt}
 use Rattle.cdc_prog.specs.Translation.{stmts_of, program_of}
-use Rattle.cdc_meaning.specs.Unread.{left_of}
-use Rattle.cdc_meaning.specs.Carried.{state}
-use Rattle.cdc_meaning.specs.Answers.{IsRun, TellsLine, HasPlainCause}
-use Rattle.cdc_meaning.proofs.Answers.{without_calls, process_is, all_zeros, program_run, program_tells, has_cause}
+use Rattle.cdc_prog.specs.Unread.{left_of}
+use Rattle.cdc_meaning.specs.Carried.{output_of, state}
+use Rattle.cdc_prog.specs.Answers.{IsRun, HasPlainCause}
+use Rattle.cdc_meaning.specs.Answers.{TellsLine}
+use Rattle.cdc_meaning.proofs.Answers.{without_calls, units_many, process_is, all_zeros, meaning_is, is_run, tells_line, has_cause}
 use Rattle.cdc_meaning.proofs.run.run_on.Goals as goal
+
+pub main_body-requires-clause-there : goal.main_body-requires-clause-there
+main_body-requires-clause-there g c = subst (λ n. c.args.program.now.main < n) (units_many c.args.program.now.units) c.requires.resolved.main
 
 pub exec_all-end-requires-clause-fits : goal.exec_all-end-requires-clause-fits
 exec_all-end-requires-clause-fits g c =
@@ -31,18 +37,25 @@ returns g c =
     let h = c.requires.resolved in
     let records = c.args.records.now in
     let body = stmts_of c.main_body.result.now in
-    let calls = unit p (length p.units - 1) in
-    let q = stmt calls (record { objects = p.objects; shapes = []; bound = [] }) body (record { slots = []; input = left_of c.new.result }) (λ d. Halt) in
+    let calls : Calls = λ number. unit p (length p.units - 1) (number ∷ []) in
+    let q = stmt calls (record { path = []; objects = p.objects; shapes = []; bound = [] }) body (record { slots = zeros; input = left_of c.new.result }) (λ d. Halt) in
     let is : process_of p records ≡ q =
     ap (process_of p) (sym c.new.ensures) ∙ process_is p (left_of c.new.result) body h.main h.main_alone (sym c.main_body.ensures) in
     let n = c.exec_all-end.new in
-    let x = state c.args.words.now [] (left_of c.new.result) (g.K.Sink.taken c.args.out.now) false (g.K.Sink.faults c.args.out.now) in
-    let y = state n.words n.slots (left_of n.streams.unread) (g.K.Sink.taken n.out) n.streams.is_open (g.K.Sink.faults n.out) in
+    let x = state c.args.words.now [] (left_of c.new.result) (output_of (g.K.Sink.taken c.args.out.now) c.new-2.result (g.K.Sink.faults c.args.out.now)) in
+    let y = state n.words n.slots (left_of n.streams.unread) (output_of (g.K.Sink.taken n.out) n.streams.page (g.K.Sink.faults n.out)) in
     let store = all_zeros c.args.words.now p.words c.requires.zeros in
     let comes = c.exec_all-end.ensures calls (λ d. Halt) in
     let end = c.exec_all-end.result in
+    let handed = c.hand_on-end.result in
+    let now = g.K.Sink.taken c.hand_on-end.new.out in
+    let risen = g.K.Sink.faults c.hand_on-end.new.out in
+    let none = c.new-2.ensures.gathered in
+    let hands = c.hand_on-end.ensures in
+    let m : Meaning = record { bytes = bytes_of p.texts (output q x.store); end = ends q x.store } in
+    let meant : m ≡ meaning p records = meaning_is p records q x.store is store in
     record {
-      run = subst (IsRun (meaning p records) x.page.taken y.page.taken) (sym c.answer.ensures) (program_run p records q x y end is store comes);
-      line = subst (λ a. TellsLine (meaning p records) (record { answer = a; is_open = y.page.is_open })) (sym c.answer.ensures) (program_tells p records q x y end is store refl comes);
-      cause = subst (HasPlainCause x.faults y.faults) (sym c.answer.ensures) (has_cause p.texts q x y end comes);
+      run = subst (λ n. IsRun n x.output.taken now c.answer.result) meant (subst (IsRun m x.output.taken now) (sym c.answer.ensures) (is_run p.texts q x y handed now risen none end comes hands));
+      line = subst (λ n. TellsLine n (record { answer = c.answer.result; is_open = y.output.is_open })) meant (subst (λ a. TellsLine m (record { answer = a; is_open = y.output.is_open })) (sym c.answer.ensures) (tells_line p.texts q x y handed now risen none end c.new-2.ensures.shut comes hands));
+      cause = subst (HasPlainCause x.output.faults risen) (sym c.answer.ensures) (has_cause p.texts q x y handed now risen none end comes hands);
     }

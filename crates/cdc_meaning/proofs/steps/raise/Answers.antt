@@ -1,11 +1,11 @@
-use Rattle.std.proofs.Common.{◌≡◌, Ok, arith, rules}
+use Rattle.std.proofs.Common.{◌≡◌, [], Ok, arith, rules}
 use mir.Val.{SFits}
 use mir.Syntax.{w64}
 use Rattle.std.proofs.lemmas.Int.{ints, to_z-of_z}
 use Rattle.cdc_prog.specs.declared.expr.BinOp.TheVariants.{Add}
 use Rattle.cdc_prog.specs.Value.{binary}
 use Rattle.cdc_meaning.specs.Frames.{binding}
-use Rattle.cdc_meaning.specs.Runs.{store_of}
+use Rattle.cdc_prog.specs.Held.{store_of}
 use Rattle.cdc_meaning.proofs.Moves.{raised}
 use Rattle.cdc_meaning.proofs.steps.raise.Goals as goal
 
@@ -15,6 +15,6 @@ returns c =
     let sum : binary Add c.fetch-x.result a.turns.by ≡ Ok c.in_ok-y.y = grind (arith, ints, to_z-of_z) in
     let f : SFits w64 c.in_ok-y.y = search rules in
     λ left rest.
-    let kept = simp to_z-of_z at (c.keep.ensures a.turns.bump.site left rest) in
+    let kept = simp to_z-of_z at (c.keep.ensures [] a.turns.bump.site left rest) in
     raised (binding a.frame.now) a.turns.line a.turns.again a.turns.bump a.turns.by c.fetch-x.result c.in_ok-y.y a.slots.now c.keep.new.slots (store_of a.words.now) (store_of c.keep.new.words) left rest c.scalar.result c.scalar-2.result
-    (c.scalar.ensures.cell a.turns.again.site) (c.fetch-x.ensures a.turns.again.site left) sum (c.scalar-2.ensures.cell a.turns.bump.site) kept
+    (c.scalar.ensures.cell a.turns.again.site) (c.fetch-x.ensures [] a.turns.again.site left) sum (c.scalar-2.ensures.cell a.turns.bump.site) kept

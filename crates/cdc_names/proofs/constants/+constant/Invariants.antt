@@ -1,6 +1,7 @@
-use Rattle.std.proofs.Common.{◌≡◌, drop, map}
-use Rattle.cdc_names.specs.Constants.{chained, known, constant}
+use Rattle.std.proofs.Common.{◌≡◌, map, drop}
+use Rattle.cdc_tree.specs.Plain.{plain, plains}
+use Rattle.cdc_names.specs.Constants.{chained, known, constants}
 use Rattle.cdc_names.proofs.constants.+constant.Given as goal
 
 abbrev pub invariant-known-loop-t : goal.invariant-known-loop-t
-invariant-known-loop-t l = chained l.which l.value (map (constant l.values) (drop l.t-index l.rest)) ≡ known l.which (map (constant l.values) l.args)
+invariant-known-loop-t l = chained l.which l.value (constants l.values (plains (map plain (drop l.t-index l.rest)))) ≡ known l.which (constants l.values (plains (map plain l.args)))

@@ -1,5 +1,5 @@
 use Rattle.std.proofs.Common.{◌≡◌, ap, ◌∙◌}
-use Rattle.cdc_parse.specs.declared.tree.Named.{Named}
+use Rattle.cdc_tree.specs.declared.tree.Named.{Named}
 use Rattle.cdc_names.specs.Duplicates.{beside}
 use Rattle.cdc_names.specs.Table.{found, placed}
 use Rattle.cdc_names.proofs.Nexts.{twice_step}

@@ -1,7 +1,10 @@
+use Rattle.std.proofs.Common.{refl}
+use Rattle.cdc_names.specs.Places.{first_of}
+use Rattle.cdc_names.specs.Scopes.{plain_scope}
 use Rattle.cdc_names.specs.Shapes.{misused}
 use Rattle.cdc_names.proofs.Firsts.{first_step}
 use Rattle.cdc_names.proofs.shapes.first_misused.Goals as goal
 
 pub loop-u-preserved : goal.loop-u-preserved
 loop-u-preserved c =
-    first_step (misused c.args.scope.now) _ _ c.u-item.result _ _ _ _ c.misused.ensures c.sooner-best.ensures c.u-item.is c.loop-u-test.true c.loop-u.invariant
+    first_step (misused (plain_scope c.args.scope.now)) (first_of (misused (plain_scope c.args.scope.now))) (λ x xs. refl) _ _ c.u-item.result _ _ _ _ c.misused.ensures c.sooner-best.ensures c.u-item.is c.loop-u-test.true c.loop-u.invariant

@@ -1,7 +1,8 @@
-use Rattle.std.proofs.Common.{◌≡◌, drop}
+use Rattle.std.proofs.Common.{◌≡◌, map, drop}
 use Rattle.cdc_names.specs.Places.{sooner, first_of}
+use Rattle.cdc_names.specs.Scopes.{plain_scope}
 use Rattle.cdc_names.specs.Undeclared.{undeclared_in}
 use Rattle.cdc_names.proofs.undeclared.first_undeclared.Given as goal
 
 abbrev pub invariant-loop-scope : goal.invariant-loop-scope
-invariant-loop-scope l = sooner l.best (first_of undeclared_in (drop l.scope-index l.scopes)) ≡ first_of undeclared_in l.scopes
+invariant-loop-scope l = sooner l.best (first_of undeclared_in (map plain_scope (drop l.scope-index l.scopes))) ≡ first_of undeclared_in (map plain_scope l.scopes)

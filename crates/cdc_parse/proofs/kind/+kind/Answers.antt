@@ -1,5 +1,5 @@
 use Rattle.std.proofs.Common.{map}
-use Rattle.cdc_parse.specs.Plain.{plain, plains}
+use Rattle.cdc_tree.specs.Plain.{plain, plains}
 use Rattle.cdc_parse.proofs.Counts.{count_view, known_many, known_few}
 use Rattle.cdc_parse.proofs.kind.+kind.Goals as goal
 

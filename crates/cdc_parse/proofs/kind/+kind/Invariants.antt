@@ -1,5 +1,5 @@
 use Rattle.std.proofs.Common.{◌≡◌, map, drop}
-use Rattle.cdc_parse.specs.Plain.{plain, plains}
+use Rattle.cdc_tree.specs.Plain.{plain, plains}
 use Rattle.cdc_parse.specs.Kinds.{are_numbers}
 use Rattle.cdc_parse.proofs.kind.+kind.Given as goal
 

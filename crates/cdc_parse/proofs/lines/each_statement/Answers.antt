@@ -1,4 +1,4 @@
-use Rattle.cdc_parse.specs.Forms.{statement}
+use Rattle.cdc_tree.specs.Forms.{statement}
 use Rattle.cdc_parse.proofs.Loops.{map_put}
 use Rattle.cdc_parse.proofs.LineLaws.{cut, read_refused, read_more}
 use Rattle.cdc_parse.proofs.lines.each_statement.Goals as goal

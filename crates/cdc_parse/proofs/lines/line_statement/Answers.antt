@@ -1,5 +1,5 @@
 use Rattle.std.proofs.Common.{refl}
-use Rattle.cdc_parse.specs.Forms.{statement}
+use Rattle.cdc_tree.specs.Forms.{statement}
 use Rattle.cdc_parse.proofs.LineLaws.{line_good, line_none}
 use Rattle.cdc_parse.proofs.lines.line_statement.Goals as goal
 

@@ -1,5 +1,5 @@
 use Rattle.std.proofs.Common.{rules, length, arith, map}
-use Rattle.cdc_parse.specs.Plain.{plain}
+use Rattle.cdc_tree.specs.Plain.{plain}
 use Rattle.cdc_parse.specs.Forms as f
 use Rattle.cdc_parse.specs.Reading.{separated}
 use Rattle.cdc_parse.proofs.Loops.{more_step, more_goes_on, more_over, map_put}

@@ -1,5 +1,5 @@
 use Rattle.std.proofs.Common.{◌≡◌, ◌-◌, map}
-use Rattle.cdc_parse.specs.Plain.{plain}
+use Rattle.cdc_tree.specs.Plain.{plain}
 use Rattle.cdc_parse.specs.Forms as f
 use Rattle.cdc_parse.specs.Reading.{more, separated}
 use Rattle.cdc_parse.proofs.parts.numbers.Given as goal

@@ -1,5 +1,5 @@
 use Rattle.std.proofs.Common.{rules, ◌-◌, length, arith, map}
-use Rattle.cdc_parse.specs.Plain.{plain}
+use Rattle.cdc_tree.specs.Plain.{plain}
 use Rattle.cdc_parse.specs.Reading.{read, inside, separated}
 use Rattle.cdc_parse.proofs.Loops.{chain_starts, chain_goes_on, more_step, more_goes_on, more_over, map_put}
 use Rattle.cdc_parse.proofs.reading.+read.Goals as goal

@@ -1,5 +1,5 @@
 use Rattle.std.proofs.Common.{◌≡◌, ◌+◌, ◌-◌, ◌*◌, map}
-use Rattle.cdc_parse.specs.Plain.{plain}
+use Rattle.cdc_tree.specs.Plain.{plain}
 use Rattle.cdc_parse.specs.Reading.{read, chain, more, separated, inside}
 use Rattle.cdc_parse.proofs.reading.+read.Given as goal
 

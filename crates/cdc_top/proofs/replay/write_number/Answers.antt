@@ -2,7 +2,7 @@ use Rattle.std.proofs.Common.{◌≡◌, sym, subst, w64, to_z, of_z, rules}
 use Rattle.std.proofs.Math.Facts.{to_z-of_z}
 use Rattle.std.specs.Prelude.{List, ℕ, ℤ, FitsSigned}
 use Rattle.cdc_num.specs.Decimal.{IsDecimalOf, decimal_bytes}
-use Rattle.cdc_meaning.proofs.Opened.{number_opens}
+use Rattle.cdc_prog.proofs.Opened.{number_opens}
 use Rattle.cdc_top.proofs.replay.write_number.Goals as goal
 
 pub returns-clause-opens : goal.returns-clause-opens

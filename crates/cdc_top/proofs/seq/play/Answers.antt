@@ -1,6 +1,6 @@
 use Rattle.std.proofs.Common.{ap, subst}
-use Rattle.cdc_meaning.specs.declared.run.Plain.{Plain}
-use Rattle.cdc_meaning.specs.Answers.{IsRun}
+use Rattle.cdc_prog.specs.declared.plain.Plain.{Plain}
+use Rattle.cdc_prog.specs.Answers.{IsRun}
 use Rattle.cdc_prog.specs.Meaning.{meaning}
 use Rattle.cdc_prog.specs.Translation.{program_of}
 use Rattle.cdc_top.specs.declared.machine.Outcome.TheVariants.{Done, Fault}

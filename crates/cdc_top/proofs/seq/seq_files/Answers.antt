@@ -5,10 +5,13 @@ use Rattle.cdc_check.specs.declared.refusal.CheckRefusal.TheVariants.{TooMany}
 use Rattle.cdc_compile.specs.declared.refusal.Refusal.TheVariants.{Check}
 use Rattle.cdc_compile.specs.Texts.{refusal_text}
 use Rattle.cdc_prog.specs.declared.program.Kind.TheVariants.{Source}
-use Rattle.cdc_top.specs.Answer.{Files, IsTold, source_limit}
+use Rattle.cdc_top.specs.Answer.{Files, IsTold}
 use Rattle.cdc_top.specs.Report.{answer}
 use Rattle.cdc_top.proofs.Ends.{ended_memory, ended_read, ended_said, ended_behind, unread, unread_told, too_long, too_long_told, too_long_long, whole_told, source_too_long}
 use Rattle.cdc_top.proofs.One.{one_seq}
+use Rattle.cdc_prog.specs.Limits.{limit}
+use Rattle.cdc_prog.specs.declared.program.Kind.TheVariants as kind
+use Rattle.cdc_top.specs.declared.status.TheConstants.{PROGRAM_REFUSED}
 use Rattle.cdc_top.proofs.seq.seq_files.Goals as goal
 
 abbrev with_files : List ℕ → List ℕ → Files
@@ -30,9 +33,9 @@ pub returns-in-Err-TooLong : goal.returns-in-Err-TooLong
 returns-in-Err-TooLong g c =
     let program = g.S.Store.told c.args.store.now c.args.program.now in
     let input = g.S.Store.told c.args.store.now c.args.input.now in
-    let bytes = too_long source_limit program in
-    let long = too_long_long source_limit program (c.in-Err-TooLong.ensures.long (ap Err c.in-Err-TooLong.field-0-is)) in
-    ended_said (with_files bytes (unread input)) (answer (refusal_text (Check (TooMany Source))) 3) _ _ _ _ _ _ _ (too_long_told source_limit program, unread_told input) (inl (source_too_long bytes long)) (λ b is. one_seq bytes (unread input) _ b (inl (source_too_long bytes long)) is)
+    let bytes = too_long (limit kind.Source) program in
+    let long = too_long_long (limit kind.Source) program (rw c.limit.ensures at (c.in-Err-TooLong.ensures.long (ap Err c.in-Err-TooLong.field-0-is))) in
+    ended_said (with_files bytes (unread input)) (answer (refusal_text (Check (TooMany Source))) PROGRAM_REFUSED) _ _ _ _ _ _ _ (too_long_told (limit kind.Source) program, unread_told input) (inl (source_too_long bytes long)) (λ b is. one_seq bytes (unread input) _ b (inl (source_too_long bytes long)) is)
     (c.in-Err-TooLong.ensures.cause.kept (λ e. cc (e, c.in-Err-TooLong.field-0-is))) c.say_refused.ensures
 
 pub returns-in-Ok : goal.returns-in-Ok
@@ -40,7 +43,7 @@ returns-in-Ok g c =
     let program = g.S.Store.told c.args.store.now c.args.program.now in
     let bytes = c.deref.result.now in
     let same = c.in-Ok.ensures.cause.kept (λ e. cc e) in
-    let read : IsTold program bytes = subst (λ (b : List ℕ). IsTold program b) (sym c.deref.ensures.value) (whole_told source_limit _ _ c.in-Ok.ensures.whole) in
+    let read : IsTold program bytes = subst (λ (b : List ℕ). IsTold program b) (sym c.deref.ensures.value) (whole_told c.limit.result _ _ c.in-Ok.ensures.whole) in
     ended_behind (λ (f : Files). record { program = bytes; input = f.input; schedule = f.schedule }) _ _ _ _ _ _ _ _
     (λ f told. (read, subst (λ o. IsTold o f.input) (c.in-Ok.ensures.told c.args.input.now) told)) (λ f a is. is) (λ f a is b other. one_seq bytes f.input a b is other)
     (λ f failed. inr (failed.0, failed.1, subst (λ k. Rose k (g.S.Store.faults c.seq_source.new.store c.args.input.now)) (same c.args.input.now) failed.2)) same c.seq_source.ensures

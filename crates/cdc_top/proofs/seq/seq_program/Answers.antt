@@ -1,8 +1,9 @@
 use Rattle.std.proofs.Common.{ap, sym, subst, refl, Err, inl}
 use Rattle.std.specs.Prelude.{List, ℕ}
 use Rattle.cdc_top.specs.Answer.{IsTold}
-use Rattle.cdc_top.specs.Sequential.{input_limit, input_too_long}
+use Rattle.cdc_top.specs.Sequential.{input_too_long}
 use Rattle.cdc_top.proofs.Ends.{with_input, ended_memory, ended_read, ended_said, ended_one_of, unread, unread_told, too_long, too_long_told, too_long_long, whole_told}
+use Rattle.cdc_top.specs.declared.limits.TheConstants.{INPUT_LIMIT}
 use Rattle.cdc_top.proofs.seq.seq_program.Goals as goal
 
 pub returns-in-Err-Memory : goal.returns-in-Err-Memory
@@ -16,12 +17,12 @@ returns-in-Err-Failed g c =
 pub returns-in-Err-TooLong : goal.returns-in-Err-TooLong
 returns-in-Err-TooLong g c =
     let told = g.S.Store.told c.args.store.now c.args.input.now in
-    let long = too_long_long input_limit told (c.in-Err-TooLong.ensures.long (ap Err c.in-Err-TooLong.field-0-is)) in
-    ended_said (with_input (too_long input_limit told)) input_too_long _ _ _ _ _ _ _ (too_long_told input_limit told) (inl (long, refl)) (inl (long, refl)) (c.in-Err-TooLong.ensures.cause.kept (λ e. cc (e, c.in-Err-TooLong.field-0-is))) c.say.ensures
+    let long = too_long_long INPUT_LIMIT told (c.in-Err-TooLong.ensures.long (ap Err c.in-Err-TooLong.field-0-is)) in
+    ended_said (with_input (too_long INPUT_LIMIT told)) input_too_long _ _ _ _ _ _ _ (too_long_told INPUT_LIMIT told) (inl (long, refl)) (inl (long, refl)) (c.in-Err-TooLong.ensures.cause.kept (λ e. cc (e, c.in-Err-TooLong.field-0-is))) c.say.ensures
 
 pub returns-in-Ok : goal.returns-in-Ok
 returns-in-Ok g c =
     let told = g.S.Store.told c.args.store.now c.args.input.now in
     let bytes = c.deref.result.now in
-    let read : IsTold told bytes = subst (λ (b : List ℕ). IsTold told b) (sym c.deref.ensures.value) (whole_told input_limit _ _ c.in-Ok.ensures.whole) in
+    let read : IsTold told bytes = subst (λ (b : List ℕ). IsTold told b) (sym c.deref.ensures.value) (whole_told INPUT_LIMIT _ _ c.in-Ok.ensures.whole) in
     ended_one_of (with_input bytes) _ _ _ _ _ _ _ read (λ a is. is) (c.in-Ok.ensures.cause.kept (λ e. cc e)) c.play_input.ensures

@@ -5,6 +5,7 @@ use Rattle.cdc_prog.specs.Translation.{program_of}
 use Rattle.cdc_top.specs.Answer.{Files, IsRefusedWith}
 use Rattle.cdc_top.specs.Report.{answer}
 use Rattle.cdc_top.proofs.Ends.{with_input, ended_memory, ended_said, ended_behind, unread, unread_told}
+use Rattle.cdc_top.specs.declared.status.TheConstants.{PROGRAM_REFUSED}
 use Rattle.cdc_top.proofs.seq.seq_source.Goals as goal
 
 pub returns-in-Err-Memory : goal.returns-in-Err-Memory
@@ -15,8 +16,8 @@ returns-in-Err g c =
     let told = g.S.Store.told c.args.store.now c.args.input.now in
     let refusal = c.in-Err.refusal in
     let other : refusal ≢ Memory = search rules in
-    let is : IsRefusedWith c.args.source.now (answer (refusal_text refusal) 3) = (refusal, other, c.in-Err.ensures.answer, refl) in
-    ended_said (with_input (unread told)) (answer (refusal_text refusal) 3) _ _ _ _ _ _ _ (unread_told told) (inl is) (inl is) (λ name. refl) c.say_refused.ensures
+    let is : IsRefusedWith c.args.source.now (answer (refusal_text refusal) PROGRAM_REFUSED) = (refusal, other, c.in-Err.ensures.answer, refl) in
+    ended_said (with_input (unread told)) (answer (refusal_text refusal) PROGRAM_REFUSED) _ _ _ _ _ _ _ (unread_told told) (inl is) (inl is) (λ name. refl) c.say_refused.ensures
 
 pub returns-in-Ok : goal.returns-in-Ok
 returns-in-Ok g c =

@@ -1,8 +1,10 @@
 use Rattle.std.proofs.Common.{◌≤◌, ap, sym, subst, arith, length, Err, inl, inr}
 use Rattle.std.specs.Prelude.{List, ℕ}
-use Rattle.cdc_top.specs.Answer.{Files, IsTold, IsAccepted, source_refused, source_limit}
+use Rattle.cdc_top.specs.Answer.{Files, IsTold, IsAccepted, source_refused}
 use Rattle.cdc_top.specs.Words.{source_of}
 use Rattle.cdc_top.proofs.Ends.{ended_memory, ended_read, ended_said, ended_behind, unread, unread_told, too_long, too_long_told, too_long_long, whole_told, source_refusal, source_behind, failed_before}
+use Rattle.cdc_prog.specs.Limits.{limit}
+use Rattle.cdc_prog.specs.declared.program.Kind.TheVariants as kind
 use Rattle.cdc_top.proofs.tool.run_files.Goals as goal
 
 abbrev with_program : List ℕ → List ℕ → List ℕ → Files
@@ -31,10 +33,10 @@ returns-in-Err-TooLong g c =
     let program = told c.args.names.program.now in
     let input = told c.args.names.input.now in
     let schedule = told c.args.names.schedule.now in
-    let files = with_program (too_long source_limit program) (unread input) (unread schedule) in
-    let long = too_long_long source_limit program (c.in-Err-TooLong.ensures.long (ap Err c.in-Err-TooLong.field-0-is)) in
+    let files = with_program (too_long (limit kind.Source) program) (unread input) (unread schedule) in
+    let long = too_long_long (limit kind.Source) program (rw c.limit.ensures at (c.in-Err-TooLong.ensures.long (ap Err c.in-Err-TooLong.field-0-is))) in
     let answer = source_refusal files (λ source accepted. omega (arith, long, accepted.within)) in
-    ended_said files source_refused _ _ _ _ _ _ _ (too_long_told source_limit program, unread_told input, unread_told schedule) answer.0 answer.1 (c.in-Err-TooLong.ensures.cause.kept (λ e. cc (e, c.in-Err-TooLong.field-0-is))) c.say.ensures
+    ended_said files source_refused _ _ _ _ _ _ _ (too_long_told (limit kind.Source) program, unread_told input, unread_told schedule) answer.0 answer.1 (c.in-Err-TooLong.ensures.cause.kept (λ e. cc (e, c.in-Err-TooLong.field-0-is))) c.say.ensures
 
 pub returns-in-None : goal.returns-in-None
 returns-in-None g c =
@@ -43,7 +45,7 @@ returns-in-None g c =
     let schedule = told c.args.names.schedule.now in
     let bytes = c.deref.result.now in
     let files = with_program bytes (unread input) (unread schedule) in
-    let read : IsTold (told c.args.names.program.now) bytes = subst (λ (b : List ℕ). IsTold (told c.args.names.program.now) b) (sym c.deref.ensures.value) (whole_told source_limit _ _ c.in-Ok.ensures.whole) in
+    let read : IsTold (told c.args.names.program.now) bytes = subst (λ (b : List ℕ). IsTold (told c.args.names.program.now) b) (sym c.deref.ensures.value) (whole_told c.limit.result _ _ c.in-Ok.ensures.whole) in
     let answer = source_refusal files (λ source accepted. c.in-None.ensures.only source accepted.is_source) in
     ended_said files source_refused _ _ _ _ _ _ _ (read, unread_told input, unread_told schedule) answer.0 answer.1 (c.in-Ok.ensures.cause.kept (λ e. cc e)) c.say-in-None.ensures
 
@@ -53,8 +55,8 @@ returns g c =
     let bytes = c.deref.result.now in
     let source = source_of c.in-Some.source in
     let same = c.in-Ok.ensures.cause.kept (λ e. cc e) in
-    let read : IsTold (told c.args.names.program.now) bytes = subst (λ (b : List ℕ). IsTold (told c.args.names.program.now) b) (sym c.deref.ensures.value) (whole_told source_limit _ _ c.in-Ok.ensures.whole) in
-    let within : length bytes ≤ source_limit = omega (arith, c.deref.ensures.len, c.in-Ok.ensures.within) in
+    let read : IsTold (told c.args.names.program.now) bytes = subst (λ (b : List ℕ). IsTold (told c.args.names.program.now) b) (sym c.deref.ensures.value) (whole_told c.limit.result _ _ c.in-Ok.ensures.whole) in
+    let within : length bytes ≤ limit kind.Source = omega (arith, c.deref.ensures.len, c.in-Ok.ensures.within, c.limit.ensures) in
     let accepted : IsAccepted bytes source = record { within = within; is_source = c.in-Some.ensures.found } in
     let wide = λ (f : Files). with_program bytes f.input f.schedule in
     ended_behind wide _ _ _ _ _ _ _ _

@@ -1,8 +1,9 @@
 use Rattle.std.proofs.Common.{◌≤◌, ap, sym, subst, arith, length, Err}
 use Rattle.std.specs.Prelude.{List, ℕ}
-use Rattle.cdc_top.specs.Answer.{IsHeader, IsTold, schedule_refused, schedule_limit, ran}
+use Rattle.cdc_top.specs.Answer.{IsHeader, IsTold, schedule_refused, ran}
 use Rattle.cdc_top.specs.Words.{source_of}
 use Rattle.cdc_top.proofs.Ends.{ended_memory, ended_read, ended_said, with_schedule, unread, unread_told, too_long, too_long_told, too_long_long, whole_told, schedule_refusal, schedule_run}
+use Rattle.cdc_top.specs.declared.limits.TheConstants.{SCHEDULE_LIMIT}
 use Rattle.cdc_top.proofs.tool.run_schedule.Goals as goal
 
 pub returns-in-Err-Memory : goal.returns-in-Err-Memory
@@ -16,23 +17,23 @@ returns-in-Err-Failed g c =
 pub returns-in-Err-TooLong : goal.returns-in-Err-TooLong
 returns-in-Err-TooLong g c =
     let told = g.S.Store.told c.args.store.now c.args.schedule.now in
-    let bytes = too_long schedule_limit told in
-    let long = too_long_long schedule_limit told (c.in-Err-TooLong.ensures.long (ap Err c.in-Err-TooLong.field-0-is)) in
+    let bytes = too_long SCHEDULE_LIMIT told in
+    let long = too_long_long SCHEDULE_LIMIT told (c.in-Err-TooLong.ensures.long (ap Err c.in-Err-TooLong.field-0-is)) in
     let answer = schedule_refusal (source_of c.args.source) (with_schedule bytes) (λ bound header. omega (arith, long, header.within)) in
-    ended_said (with_schedule bytes) schedule_refused _ _ _ _ _ _ _ (too_long_told schedule_limit told) answer.0 answer.1 (c.in-Err-TooLong.ensures.cause.kept (λ e. cc (e, c.in-Err-TooLong.field-0-is))) c.say.ensures
+    ended_said (with_schedule bytes) schedule_refused _ _ _ _ _ _ _ (too_long_told SCHEDULE_LIMIT told) answer.0 answer.1 (c.in-Err-TooLong.ensures.cause.kept (λ e. cc (e, c.in-Err-TooLong.field-0-is))) c.say.ensures
 
 pub returns-in-None : goal.returns-in-None
 returns-in-None g c =
     let bytes = c.deref.result.now in
-    let told : IsTold (g.S.Store.told c.args.store.now c.args.schedule.now) bytes = subst (λ (b : List ℕ). IsTold (g.S.Store.told c.args.store.now c.args.schedule.now) b) (sym c.deref.ensures.value) (whole_told schedule_limit _ _ c.in-Ok.ensures.whole) in
+    let told : IsTold (g.S.Store.told c.args.store.now c.args.schedule.now) bytes = subst (λ (b : List ℕ). IsTold (g.S.Store.told c.args.store.now c.args.schedule.now) b) (sym c.deref.ensures.value) (whole_told SCHEDULE_LIMIT _ _ c.in-Ok.ensures.whole) in
     let answer = schedule_refusal (source_of c.args.source) (with_schedule bytes) (λ bound header. cc (c.in-None.ensures.only bound header.is_schedule)) in
     ended_said (with_schedule bytes) schedule_refused _ _ _ _ _ _ _ told answer.0 answer.1 (c.in-Ok.ensures.cause.kept (λ e. cc e)) c.say-in-None.ensures
 
 pub returns : goal.returns
 returns g c =
     let bytes = c.deref.result.now in
-    let told : IsTold (g.S.Store.told c.args.store.now c.args.schedule.now) bytes = subst (λ (b : List ℕ). IsTold (g.S.Store.told c.args.store.now c.args.schedule.now) b) (sym c.deref.ensures.value) (whole_told schedule_limit _ _ c.in-Ok.ensures.whole) in
-    let within : length bytes ≤ schedule_limit = omega (arith, c.deref.ensures.len, c.in-Ok.ensures.within) in
+    let told : IsTold (g.S.Store.told c.args.store.now c.args.schedule.now) bytes = subst (λ (b : List ℕ). IsTold (g.S.Store.told c.args.store.now c.args.schedule.now) b) (sym c.deref.ensures.value) (whole_told SCHEDULE_LIMIT _ _ c.in-Ok.ensures.whole) in
+    let within : length bytes ≤ SCHEDULE_LIMIT = omega (arith, c.deref.ensures.len, c.in-Ok.ensures.within) in
     let header : IsHeader bytes c.in-Some.bound = record { within = within; is_schedule = c.in-Some.ensures.found } in
     let answer = schedule_run (source_of c.args.source) (with_schedule bytes) c.in-Some.bound header (λ b is. cc (c.in-Some.ensures.only b is.is_schedule)) in
     ended_said (with_schedule bytes) (ran (source_of c.args.source) c.in-Some.bound) _ _ _ _ _ _ _ told answer.0 answer.1 (c.in-Ok.ensures.cause.kept (λ e. cc e)) c.run_source.ensures

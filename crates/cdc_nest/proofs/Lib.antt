@@ -1,0 +1,4 @@
+pub mod Puts
+pub mod Grown
+pub mod Taken
+pub mod UnitLaws

@@ -1,7 +1,0 @@
-use Rattle.std.proofs.Common.{◌≡◌, map, drop}
-use Rattle.cdc_parse.specs.Units.{unit}
-use Rattle.cdc_parse.specs.Nesting.{has_main}
-use Rattle.cdc_parse.proofs.blocks.has_main.Given as goal
-
-abbrev pub invariant-loop-unit : goal.invariant-loop-unit
-invariant-loop-unit l = has_main (map unit l.units) ≡ has_main (map unit (drop l.unit-index l.units))

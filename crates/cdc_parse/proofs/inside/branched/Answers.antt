@@ -1,5 +1,0 @@
-use Rattle.cdc_parse.proofs.Puts.{made_put}
-use Rattle.cdc_parse.proofs.inside.branched.Goals as goal
-
-pub returns : goal.returns
-returns c = made_put c.args.branches.items c.push.new.self.items c.args.head c.args.nodes.items c.of-body.result c.in_ok-push.ensures.items c.of-body.ensures

@@ -1,0 +1,4 @@
+pub mod Logical
+pub mod Counts
+pub mod Options
+pub mod Order

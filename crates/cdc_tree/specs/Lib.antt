@@ -1,0 +1,5 @@
+pub mod Plain
+pub mod Forms
+pub mod Units
+pub mod Options
+pub mod Order
