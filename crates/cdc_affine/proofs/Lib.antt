@@ -1,0 +1,4 @@
+pub mod Merging
+pub mod Parts
+pub mod Turns
+pub mod Worth

@@ -1,0 +1,12 @@
+pub mod Apart
+pub mod Bodies
+pub mod Callers
+pub mod Examples
+pub mod Moments
+pub mod Numbering
+pub mod Same
+pub mod Small
+pub mod Programs
+pub mod Tested
+pub mod Unaliased
+pub mod Words

@@ -1,0 +1,4 @@
+pub mod Reached
+pub mod Seen
+pub mod Sketches
+pub mod Verdicts
