@@ -1,0 +1,9 @@
+pub mod Mapped
+pub mod Lost
+pub mod Places
+pub mod InSets
+pub mod Slots
+pub mod Misses
+pub mod SetCalls
+pub mod Partition
+pub mod Processors

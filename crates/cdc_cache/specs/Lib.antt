@@ -1,0 +1,14 @@
+pub mod Carry
+pub mod Good
+pub mod Lines
+pub mod Marks
+pub mod Sets
+pub mod Finds
+pub mod Found
+pub mod Cache
+pub mod Distinct
+pub mod Copies
+pub mod Serves
+pub mod Processors
+pub mod Sides
+pub mod SidesLaws

@@ -1,0 +1,3 @@
+pub mod TrueTime
+pub mod History
+pub mod HistoryLaw

@@ -1,0 +1,2 @@
+pub mod ChangeBits
+pub mod ChangeBitsLaws
