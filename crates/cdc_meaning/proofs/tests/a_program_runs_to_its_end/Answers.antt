@@ -7,3 +7,6 @@ run_plain-requires-clause-resolved g c = one_runs (program_of c.in_ok-program.pr
 
 pub run_lines-end-requires-clause-resolved : goal.run_lines-end-requires-clause-resolved
 run_lines-end-requires-clause-resolved g c = one_runs (program_of c.in_ok-program.program) c.in_ok-program.ensures
+
+pub run_lines-end-requires-2-clause-resolved : goal.run_lines-end-requires-2-clause-resolved
+run_lines-end-requires-2-clause-resolved g c = one_runs (program_of c.in_ok-program.program) c.in_ok-program.ensures
