@@ -32,6 +32,7 @@ impl Gathered {
     /// # Errors
     ///
     /// A failure of the sink, when it had taken a front of what waited and the piece. Nothing waits then.
+    #[inline(always)]
     pub fn put<K: Sink>(&mut self, out: &mut K, piece: &[u8]) -> Result<(), SinkFault>
         ensures ok { OnOk result (HandsOn (K.taken out.old) (K.taken out.new) (waiting self.old ++ piece.now) (waiting self.new)) }
         ensures failed { OnErr result (GrewInPart (K.taken out.old) (K.taken out.new) (waiting self.old ++ piece.now)) }
@@ -41,6 +42,17 @@ impl Gathered {
         if self.held.try_extend_from_slice(piece).is_ok() {
             return Ok(());
         }
+        self.put_behind(out, piece)
+    }
+
+    // Hands on what waits, and then puts a piece there, or hands it on, too, where it is longer than the room.
+    #[inline(never)]
+    fn put_behind<K: Sink>(&mut self, out: &mut K, piece: &[u8]) -> Result<(), SinkFault>
+        ensures ok { OnOk result (HandsOn (K.taken out.old) (K.taken out.new) (waiting self.old ++ piece.now) (waiting self.new)) }
+        ensures failed { OnErr result (GrewInPart (K.taken out.old) (K.taken out.new) (waiting self.old ++ piece.now)) }
+        ensures lost { OnErr result (waiting self.new ≡ []) }
+        ensures cause { HasCause (K.faults out.old) (K.faults out.new) result }
+    {
         self.flush(out)?;
         if self.held.try_extend_from_slice(piece).is_ok() {
             return Ok(());

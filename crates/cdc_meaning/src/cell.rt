@@ -19,7 +19,7 @@ pub enum Cell {
 }
 
 /// The cell of a scalar.
-#[inline]
+#[inline(always)]
 pub fn scalar(frame: &Frame, slots: &[i64], var: Var) -> Cell
     requires placed { IsPlaced frame.now }
     requires known { IsScalar frame.now.program.now.objects (shapes_of frame.now) (length slots.now) var }
@@ -33,7 +33,7 @@ pub fn scalar(frame: &Frame, slots: &[i64], var: Var) -> Cell
 }
 
 /// The value of a cell.
-#[inline]
+#[inline(always)]
 pub fn fetch(words: &[i64], slots: &[i64], cell: Cell) -> i64
     requires { IsWithin (length words.now) (length slots.now) cell }
     ensures { Fetches cell slots.now (store_of words.now) result }
@@ -45,7 +45,7 @@ pub fn fetch(words: &[i64], slots: &[i64], cell: Cell) -> i64
 }
 
 /// Stores a value in a cell.
-#[inline]
+#[inline(always)]
 pub fn keep(words: &mut [i64], slots: &mut [i64], cell: Cell, value: i64)
     requires { IsWithin (length words.old) (length slots.old) cell }
     ensures { Keeps cell value slots.old (store_of words.old) slots.new (store_of words.new) }

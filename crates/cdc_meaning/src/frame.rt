@@ -17,7 +17,7 @@ pub struct Frame<'a> {
 
 impl<'a> Frame<'a> {
     // The number of the object that a variable stands for.
-    #[inline]
+    #[inline(always)]
     fn object(&self, var: Var) -> usize
         ensures { result ≡ object_of (binding self.now) var }
     {
@@ -29,7 +29,7 @@ impl<'a> Frame<'a> {
     }
 
     // The first word of a variable.
-    #[inline]
+    #[inline(always)]
     fn base(&self, var: Var) -> u32
         ensures { result ≡ base_of (binding self.now) var }
     {
@@ -40,7 +40,7 @@ impl<'a> Frame<'a> {
     }
 
     /// The dimensions of a variable; none for a scalar.
-    #[inline]
+    #[inline(always)]
     pub fn dims(&self, var: Var) -> &'a [Dim]
         ensures { result.now ≡ dims_of (binding self.now) var }
     {
@@ -58,7 +58,7 @@ impl<'a> Frame<'a> {
     }
 
     /// The word of element `n` of a variable that is no slot.
-    #[inline]
+    #[inline(always)]
     pub fn word(&self, var: Var, n: u32) -> u32
         requires placed { IsPlaced self.now }
         requires known { IsVar self.now.program.now.objects (shapes_of self.now) 0 var }

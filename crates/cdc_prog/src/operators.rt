@@ -7,7 +7,7 @@ use crate::program::FaultKind;
 use cdc_num::{Arith, abs, add, div, mul, neg, rem, sub, trip_count};
 
 // A result, or the fault that stands for its absence.
-#[inline]
+#[inline(always)]
 fn faulting(answer: Result<i64, Arith>) -> Result<i64, FaultKind>
     ensures { result ≡ or_fault FaultKind.ZeroDivisor answer }
 {
@@ -19,7 +19,7 @@ fn faulting(answer: Result<i64, Arith>) -> Result<i64, FaultKind>
 }
 
 /// What a relation or a connective gives: 1 for true, 0 for false.
-#[inline]
+#[inline(always)]
 pub fn truth(holds: bool) -> i64
     ensures { result ≡ truth holds }
 {
@@ -31,7 +31,7 @@ pub fn truth(holds: bool) -> i64
 /// # Errors
 ///
 /// `Overflow` where the result is out of range.
-#[inline]
+#[inline(always)]
 pub fn unary(op: UnOp, a: i64) -> Result<i64, FaultKind>
     ensures { result ≡ unary op a }
 {
@@ -48,7 +48,7 @@ pub fn unary(op: UnOp, a: i64) -> Result<i64, FaultKind>
 ///
 /// `Overflow` where the result is out of range, `ZeroDivisor` where a division or MOD has the
 /// divisor 0.
-#[inline]
+#[inline(always)]
 pub fn binary(op: BinOp, a: i64, b: i64) -> Result<i64, FaultKind>
     ensures { result ≡ binary op a b }
 {

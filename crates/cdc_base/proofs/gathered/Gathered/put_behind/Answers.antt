@@ -1,7 +1,7 @@
 use Rattle.std.proofs.Common.{rules, []}
 use Rattle.cdc_base.specs.Gathered.{waiting}
 use Rattle.cdc_base.proofs.Handed.{all_handed, part_handed}
-use Rattle.cdc_base.proofs.gathered.Gathered.put.Goals as goal
+use Rattle.cdc_base.proofs.gathered.Gathered.put_behind.Goals as goal
 
 pub returns-clause-ok : goal.returns-clause-ok
 returns-clause-ok g c =
