@@ -1,5 +1,5 @@
 -- A piece for which there was no room, also after the sink was handed what waited.
-use Rattle.std.proofs.Common.{◌≡◌, ℕ, List, [], ◌++◌, refl, sym, ◌∙◌, ap, append-nil}
+use Rattle.std.proofs.Common.{◌≡◌, ℕ, List, [], ◌++◌, ◌∙◌, ap, append-nil}
 use Rattle.std.specs.Prelude.{Option, Result, Ok, Err, OnOk, OnErr}
 use Rattle.cdc_base.specs.Gathered.{HandsOn}
 use Rattle.cdc_base.specs.Outside.{grown, GrewInPart}
