@@ -4,7 +4,7 @@ use Rattle.std.specs.Prelude.{Option}
 use Rattle.std.proofs.lemmas.List.{length-map}
 use Rattle.cdc_base.specs.Outside.{grown}
 use Rattle.cdc_base.specs.Causes.{Rose}
-use Rattle.cdc_code.specs.declared.instr.Step.{Step}
+use Rattle.cdc_top.specs.declared.instr.Step.{Step}
 use Rattle.cdc_prog.specs.Lines.{is_open}
 use Rattle.cdc_top.specs.Answer.{Said, ran}
 use Rattle.cdc_top.specs.Code.{names, code_in, code_of}

@@ -3,9 +3,9 @@ use Rattle.std.proofs.Common.{◌≡◌, ℕ, List, [], ◌∷◌, refl, arith, 
 use Rattle.std.specs.Prelude.{Option, Some, None, slice_get, ℤ, Result, Ok, Err, ◌+ℤ◌}
 use Rattle.cdc_num.specs.declared.arith.Arith.{Arith}
 use Rattle.cdc_num.specs.Exact.{exact}
-use Rattle.cdc_code.specs.declared.instr.Step.{Step}
-use Rattle.cdc_code.specs.declared.instr.Instr.{Instr}
-use Rattle.cdc_code.specs.declared.instr.Instr.TheVariants as instr
+use Rattle.cdc_top.specs.declared.instr.Step.{Step}
+use Rattle.cdc_top.specs.declared.instr.Instr.{Instr}
+use Rattle.cdc_top.specs.declared.instr.Instr.TheVariants as instr
 use Rattle.cdc_top.specs.Laws.{MeansTheSource, HitsGiveMemory, hits}
 use Rattle.cdc_top.specs.Machine.{Machine, turn, act, act_at, added, saved, summed, put_out, one_step, silent, Turn, run}
 use Rattle.cdc_top.specs.Code.{code_of}

@@ -2,7 +2,7 @@
 use Rattle.std.proofs.Common.{◌≡◌, ℕ, suc, ◌+◌, ◌-◌, ◌<◌, ◌≤◌, List, [], ◌++◌, refl, sym, ◌∙◌, ap, subst, arith, false, Bool, if◌then◌else◌, append_assoc}
 use Rattle.std.specs.Prelude.{Option, Some, None, is_some}
 use Rattle.cdc_base.specs.Outside.{grown}
-use Rattle.cdc_code.specs.declared.instr.Step.{Step}
+use Rattle.cdc_top.specs.declared.instr.Step.{Step}
 use Rattle.cdc_prog.specs.Lines.{opened}
 use Rattle.cdc_top.specs.declared.machine.Outcome.{Outcome}
 use Rattle.cdc_top.specs.Machine.{Machine, State, Turn, turn, next, play}

@@ -6,7 +6,7 @@ use Rattle.cdc_base.specs.Numbers.{one_more}
 use Rattle.cdc_num.specs.declared.arith.Arith.{Arith}
 use Rattle.cdc_num.specs.Exact.{exact}
 use Rattle.cdc_num.specs.Decimal.{decimal_bytes}
-use Rattle.cdc_code.specs.declared.instr.Step.{Step}
+use Rattle.cdc_top.specs.declared.instr.Step.{Step}
 use Rattle.cdc_prog.specs.declared.program.FaultKind.TheVariants.{Overflow}
 use Rattle.cdc_top.specs.declared.machine.Counts.{Counts}
 use Rattle.cdc_top.specs.declared.machine.Outcome.{Outcome}

@@ -2,9 +2,9 @@
 use Rattle.std.specs.Prelude.{ℕ, ◌+◌, List, [], ◌∷◌, ◌++◌, if◌then◌else◌}
 use Rattle.std.specs.List.{list_any, position_or_len}
 use Rattle.std.specs.Str.{bytes_eq}
-use Rattle.cdc_code.specs.declared.instr.Step.{Step}
-use Rattle.cdc_code.specs.declared.instr.Instr.{Instr}
-use Rattle.cdc_code.specs.declared.instr.Instr.TheVariants as instr
+use Rattle.cdc_top.specs.declared.instr.Step.{Step}
+use Rattle.cdc_top.specs.declared.instr.Instr.{Instr}
+use Rattle.cdc_top.specs.declared.instr.Instr.TheVariants as instr
 use Rattle.cdc_prog.specs.declared.expr.Var.TheVariants.{Object}
 use Rattle.cdc_prog.specs.declared.program.Mark.TheVariants.{Ordinary}
 use Rattle.cdc_top.specs.Source.{Operand, Number, Variable, Sum, Source}

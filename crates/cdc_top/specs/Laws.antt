@@ -1,8 +1,8 @@
 -- What a run owes the sequential source and the memory.
 use Rattle.std.specs.Prelude.{◌≡◌, ℕ, ◌+◌, ◌<◌, List, [], Option, Some, None, slice_get}
-use Rattle.cdc_code.specs.declared.instr.Step.{Step}
-use Rattle.cdc_code.specs.declared.instr.Instr.{Instr}
-use Rattle.cdc_code.specs.declared.instr.Instr.TheVariants as instr
+use Rattle.cdc_top.specs.declared.instr.Step.{Step}
+use Rattle.cdc_top.specs.declared.instr.Instr.{Instr}
+use Rattle.cdc_top.specs.declared.instr.Instr.TheVariants as instr
 use Rattle.cdc_top.specs.Answer.{Files, IsAccepted, IsHeader}
 use Rattle.cdc_top.specs.Code.{code_of}
 use Rattle.cdc_top.specs.Machine.{Machine, turn, run}

@@ -4,9 +4,9 @@ use Rattle.cdc_base.specs.Numbers.{one_more}
 use Rattle.cdc_num.specs.declared.arith.Arith.{Arith}
 use Rattle.cdc_num.specs.Exact.{exact}
 use Rattle.cdc_num.specs.Decimal.{decimal_bytes}
-use Rattle.cdc_code.specs.declared.instr.Step.{Step}
-use Rattle.cdc_code.specs.declared.instr.Instr.{Instr}
-use Rattle.cdc_code.specs.declared.instr.Instr.TheVariants as instr
+use Rattle.cdc_top.specs.declared.instr.Step.{Step}
+use Rattle.cdc_top.specs.declared.instr.Instr.{Instr}
+use Rattle.cdc_top.specs.declared.instr.Instr.TheVariants as instr
 use Rattle.cdc_top.specs.Word.{word_of}
 use Rattle.cdc_prog.specs.declared.program.Mark.{Mark}
 use Rattle.cdc_prog.specs.declared.program.FaultKind.TheVariants.{Overflow}

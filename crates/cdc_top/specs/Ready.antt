@@ -1,8 +1,8 @@
 -- When a machine can carry out its next instruction, and what a run keeps.
 use Rattle.std.specs.Prelude.{◌≡◌, ℕ, ◌<◌, ◌≤◌, List, ◌++◌, length, Some, None, ℤ, slice_get, IsSomeAnd}
-use Rattle.cdc_code.specs.declared.instr.Step.{Step}
-use Rattle.cdc_code.specs.declared.instr.Instr.{Instr}
-use Rattle.cdc_code.specs.declared.instr.Instr.TheVariants as instr
+use Rattle.cdc_top.specs.declared.instr.Step.{Step}
+use Rattle.cdc_top.specs.declared.instr.Instr.{Instr}
+use Rattle.cdc_top.specs.declared.instr.Instr.TheVariants as instr
 use Rattle.cdc_top.specs.declared.machine.Outcome.{Outcome}
 use Rattle.cdc_top.specs.Machine.{Machine, State, play}
 use Rattle.cdc_top.specs.Word.{word_of}

@@ -1,7 +1,7 @@
 -- A run that prints as it goes.
 use Rattle.std.specs.Prelude.{◌≡◌, ℕ, ◌-◌, Bool, false, List, [], Option, None}
 use Rattle.cdc_base.specs.Outside.{grown}
-use Rattle.cdc_code.specs.declared.instr.Step.{Step}
+use Rattle.cdc_top.specs.declared.instr.Step.{Step}
 use Rattle.cdc_prog.specs.Lines.{opened}
 use Rattle.cdc_top.specs.Machine.{Machine, State, play}
 use Rattle.cdc_top.specs.Ready.{IsReady}

@@ -2,6 +2,7 @@
 #![tactic(auto)]
 
 mod check;
+mod instr;
 mod limits;
 mod machine;
 mod replay;

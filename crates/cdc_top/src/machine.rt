@@ -4,9 +4,10 @@ ghost use Rattle.cdc_top.specs.Word.{word_of};
 ghost use Rattle.cdc_num.specs.Decimal.{decimal_bytes};
 
 use crate::NoMemory;
+use crate::instr::{Instr, Step};
 use arrayvec::ArrayVec;
-use cdc_code::{FaultKind, Instr, Mark, Step, Var};
 use cdc_num::add;
+use cdc_prog::{FaultKind, Mark, Var};
 use std::alloc::Global;
 use std::marker::Model;
 

@@ -6,9 +6,9 @@ ghost use Rattle.cdc_top.specs.Machine.{play, piece_bytes};
 ghost use Rattle.cdc_text.specs.Pieces.{Wrote};
 ghost use Rattle.cdc_top.specs.Replay.{Runs, fresh};
 
+use crate::instr::Step;
 use crate::machine::{Machine, Piece};
 use cdc_base::{Sink, SinkFault};
-use cdc_code::Step;
 use cdc_num::decimal;
 use cdc_text::write_words;
 

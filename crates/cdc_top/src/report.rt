@@ -7,7 +7,7 @@ ghost use Rattle.cdc_top.specs.Report.{kind_text, end_line, event_lines, count_l
 use crate::machine::{Counts, Machine, Outcome};
 use crate::status::{DONE, FAULTED, STOPPED};
 use cdc_base::{Sink, SinkFault};
-use cdc_code::FaultKind;
+use cdc_prog::FaultKind;
 use cdc_text::{Text, write_texts, write_words};
 
 fn kind_words(kind: FaultKind) -> &'static [u8]

@@ -8,6 +8,7 @@ ghost use Rattle.cdc_top.specs.Report.{Answer, answer, printed};
 ghost use Rattle.cdc_top.specs.Status.{IsFinished};
 ghost use Rattle.cdc_top.specs.Words.{source_of};
 
+use crate::instr::Step;
 use crate::machine::Machine;
 use crate::replay::replay;
 use crate::report::{outcome, status, write_report};
@@ -15,7 +16,6 @@ use crate::source::Source;
 use crate::status::{OUT_OF_MEMORY, WRITE_FAULT};
 use crate::translate::{code, objects};
 use cdc_base::{Sink, SinkFault};
-use cdc_code::Step;
 use cdc_text::write_words;
 use std::alloc::Global;
 

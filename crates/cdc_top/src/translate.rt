@@ -6,8 +6,9 @@ ghost use Rattle.cdc_top.specs.Words.{operand_of, sum_of, source_of};
 ghost use Rattle.cdc_top.specs.Named.{texts};
 
 use crate::NoMemory;
+use crate::instr::{Instr, Step};
 use crate::source::{Operand, Source, Sum, is_one_of};
-use cdc_code::{Instr, Mark, Step, Var};
+use cdc_prog::{Mark, Var};
 use std::alloc::Global;
 
 // A name that is not known yet is added.

@@ -1,0 +1,11 @@
+pub mod Placed
+pub mod Rows
+pub mod CallNumbers
+pub mod Follows
+pub mod Names
+pub mod Whole
+pub mod OneRun
+pub mod Alone
+pub mod Examples
+pub mod OneStep
+pub mod InTurn

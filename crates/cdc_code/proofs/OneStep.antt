@@ -1,0 +1,109 @@
+-- One instruction of code that does a process: what is left of the process.
+use Rattle.std.proofs.Common.{◌≡◌, ℕ, ◌+◌, ◌*◌, ◌<◌, ◌≤◌, List, [], ◌∷◌, ◌++◌, refl, sym, subst, arith}
+use Rattle.cdc_prog.specs.declared.piece.Piece.{Piece}
+use Rattle.cdc_prog.specs.declared.program.Mark.{Mark}
+use Rattle.cdc_prog.specs.Data.{Store, put}
+use Rattle.cdc_prog.specs.Process.{Process, Load, Save, Say, Tick, Fork, Join, Halt, Fail}
+use Rattle.cdc_prog.specs.Alone.{left, said, ending, ticks}
+use Rattle.cdc_code.specs.declared.code.Code.{Code}
+use Rattle.cdc_code.specs.Act.{Act, Goes, Reads, Writes, Prints, Forks, Joins, Halts, Faults, Stuck}
+use Rattle.cdc_code.specs.Frames.{Frame}
+use Rattle.cdc_code.specs.Rows.{act}
+use Rattle.cdc_code.specs.Does.{Comes, here, after, Reach, Does}
+
+-- a process on its store prints these pieces and then does what another does on its own
+pub record Leads (p : Process) (s : Store) (pieces : List Piece) (q : Process) (t : Store) : Type 0 where
+  pub said : said p s ≡ pieces ++ said q t
+  pub left : left p s ≡ left q t
+  pub ending : ending p s ≡ ending q t
+
+-- a process on its store is at its end
+pub record IsAtEnd (p : Process) (s : Store) (q : Process) : Type 0 where
+  pub said : said p s ≡ []
+  pub left : left p s ≡ s
+  pub ending : ending p s ≡ q
+
+module _ (code : Code) (marks : List Mark) (Fits : Frame → Type 0) where
+  -- what the code still does from a frame on a store: a process to which the one before leads, in fewer instructions
+  pub record Still (budget : ℕ) (p : Process) (s : Store) (pieces : List Piece) (g : Frame) (t : Store) : Type 0 where
+    pub rest : ℕ
+    pub process : Process
+    pub does : Does code marks Fits rest process g
+    pub leads : Leads p s pieces process t
+    pub fewer : rest + 8 * ticks process t < budget + 8 * ticks p s
+
+  -- what the act of the frame says of the process
+  abbrev pub Stepped : (budget : ℕ) → Process → Store → Act Frame → Type 0
+  Stepped b p s (Goes g) = Still b p s [] g s
+  Stepped b p s (Reads path site mark word h) = Still b p s [] (h (s word)) s
+  Stepped b p s (Writes path site word v g) = Still b p s [] g (put s word v)
+  Stepped b p s (Prints piece g) = Still b p s (piece ∷ []) g s
+  Stepped b p s (Forks path number count from by e h) =
+      (body : ℕ → Process) × (next : Process) × (m : ℕ) × IsAtEnd p s (Fork path number count from by body next) × ((k : ℕ) → Does code marks Fits 0 (body k) (e k)) × Does code marks Fits m next h × (m < b + 8 * ticks p s)
+  Stepped b p s Joins = IsAtEnd p s Join
+  Stepped b p s Halts = IsAtEnd p s Halt
+  Stepped b p s (Faults kind line) = IsAtEnd p s (Fail kind line)
+  Stepped b p s Stuck = ⊥
+
+  -- the frame has room, and its act is the one that the process says
+  pub record Steps (budget : ℕ) (p : Process) (f : Frame) (s : Store) : Type 0 where
+    pub fits : Fits f
+    pub stepped : Stepped budget p s (act code f)
+
+  -- a tick more before the process
+  ticked : (b : ℕ) (next : Process) (s : Store) (a : Act Frame) → Stepped (b + 8) next s a → Stepped b (Tick next) s a
+  ticked b next s (Goes g) h = later b next s [] g s h
+    where
+      later : (b : ℕ) (next : Process) (s : Store) (pieces : List Piece) (g : Frame) (t : Store) → Still (b + 8) next s pieces g t → Still b (Tick next) s pieces g t
+      later b next s pieces g t h = record { rest = h.rest; process = h.process; does = h.does; leads = record { said = h.leads.said; left = h.leads.left; ending = h.leads.ending }; fewer = omega (arith, h.fewer) }
+  ticked b next s (Reads path site mark word h) k = record { rest = k.rest; process = k.process; does = k.does; leads = record { said = k.leads.said; left = k.leads.left; ending = k.leads.ending }; fewer = omega (arith, k.fewer) }
+  ticked b next s (Writes path site word v g) k = record { rest = k.rest; process = k.process; does = k.does; leads = record { said = k.leads.said; left = k.leads.left; ending = k.leads.ending }; fewer = omega (arith, k.fewer) }
+  ticked b next s (Prints piece g) k = record { rest = k.rest; process = k.process; does = k.does; leads = record { said = k.leads.said; left = k.leads.left; ending = k.leads.ending }; fewer = omega (arith, k.fewer) }
+  ticked b next s (Forks path number count from by e h) k =
+      (k.0, k.1, k.2, record { said = k.3.said; left = k.3.left; ending = k.3.ending }, k.4, k.5, omega (arith, k.6))
+  ticked b next s Joins k = record { said = k.said; left = k.left; ending = k.ending }
+  ticked b next s Halts k = record { said = k.said; left = k.left; ending = k.ending }
+  ticked b next s (Faults kind line) k = record { said = k.said; left = k.left; ending = k.ending }
+  ticked b next s Stuck k = k
+
+  -- at a reach: a quiet instruction of it, or the act of the process
+  reached : (b : ℕ) (p : Process) (f : Frame) (s : Store) (P : ℕ → Frame → Type 0) → Reach code marks Fits b f P
+      → ((n : ℕ) (g : Frame) → Reach code marks Fits n g P → Does code marks Fits n p g)
+      → ((m : ℕ) → m < b → P m f → Stepped b p s (act code f))
+      → Steps b p f s
+  reached b p f s P r again own = go r.steps r.place r.comes r.within r.does
+    where
+      go : (k : ℕ) (place : Frame) → Comes code marks Fits k f place → k + 1 + r.left ≤ b → P r.left place → Steps b p f s
+      go k place (here _ ok) le h = record { fits = ok; stepped = own r.left (omega (arith, le)) h }
+      go k place (after n _ g _ ok q rest) le h =
+          let remaining : Reach code marks Fits (n + 1 + r.left) g P = record { steps = n; left = r.left; within = omega arith; place = place; comes = rest; does = h } in
+          let still : Still b p s [] g s = record { rest = n + 1 + r.left; process = p; does = again (n + 1 + r.left) g remaining; leads = record { said = refl; left = refl; ending = refl }; fewer = omega (arith, le) } in
+          record { fits = ok; stepped = subst (Stepped b p s) (sym q) still }
+
+  pub one_step : (b : ℕ) (p : Process) (f : Frame) (s : Store) → Does code marks Fits b p f → Steps b p f s
+  one_step b (Tick next) f s d =
+      let h = one_step (b + 8) next f s d in
+      record { fits = h.fits; stepped = ticked b next s (act code f) h.stepped }
+  one_step b (Load path site word next) f s d =
+      reached b (Load path site word next) f s _ d (λ n g r. r) (λ m lt h.
+      let still : Still b (Load path site word next) s [] (h.0 (s word)) s = record { rest = m; process = next (s word); does = h.2 (s word); leads = record { said = refl; left = refl; ending = refl }; fewer = omega (arith, lt) } in
+      subst (Stepped b (Load path site word next) s) (sym h.1) still)
+  one_step b (Save path site word v next) f s d =
+      reached b (Save path site word v next) f s _ d (λ n g r. r) (λ m lt h.
+      let still : Still b (Save path site word v next) s [] h.0 (put s word v) = record { rest = m; process = next; does = h.2; leads = record { said = refl; left = refl; ending = refl }; fewer = omega (arith, lt) } in
+      subst (Stepped b (Save path site word v next) s) (sym h.1) still)
+  one_step b (Say piece next) f s d =
+      reached b (Say piece next) f s _ d (λ n g r. r) (λ m lt h.
+      let still : Still b (Say piece next) s (piece ∷ []) h.0 s = record { rest = m; process = next; does = h.2; leads = record { said = refl; left = refl; ending = refl }; fewer = omega (arith, lt) } in
+      subst (Stepped b (Say piece next) s) (sym h.1) still)
+  one_step b (Fork path number count from by body next) f s d =
+      reached b (Fork path number count from by body next) f s _ d (λ n g r. r) (λ m lt h.
+      let over : IsAtEnd (Fork path number count from by body next) s (Fork path number count from by body next) = record { said = refl; left = refl; ending = refl } in
+      subst (Stepped b (Fork path number count from by body next) s) (sym h.2) (body, next, m, over, h.3, h.4, omega (arith, lt)))
+  one_step b Join f s d =
+      reached b Join f s _ d (λ n g r. r) (λ m lt h. let over : IsAtEnd Join s Join = record { said = refl; left = refl; ending = refl } in subst (Stepped b Join s) (sym h) over)
+  one_step b Halt f s d =
+      reached b Halt f s _ d (λ n g r. r) (λ m lt h. let over : IsAtEnd Halt s Halt = record { said = refl; left = refl; ending = refl } in subst (Stepped b Halt s) (sym h) over)
+  one_step b (Fail kind line) f s d =
+      reached b (Fail kind line) f s _ d (λ n g r. r) (λ m lt h.
+      let over : IsAtEnd (Fail kind line) s (Fail kind line) = record { said = refl; left = refl; ending = refl } in subst (Stepped b (Fail kind line) s) (sym h) over)

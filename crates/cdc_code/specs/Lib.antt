@@ -1,0 +1,10 @@
+pub mod Act
+pub mod Frames
+pub mod Rows
+pub mod Template
+pub mod Room
+pub mod Does
+pub mod Alone
+pub mod Sound
+pub mod Laws
+pub mod Examples
