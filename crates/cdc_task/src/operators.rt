@@ -1,0 +1,84 @@
+//! Operators, on the top of the stack.
+
+ghost use Rattle.std.specs.Prelude.{◌<◌, ◌^◌, ℕ};
+ghost use Rattle.cdc_prog.specs.Input.{Input};
+ghost use Rattle.cdc_code.specs.Rows.{unary_act, binary_act};
+ghost use Rattle.cdc_task.specs.Steps.{FitsIn, EndsOn, FitsAt, EndsAt, IsOperator};
+
+use crate::end::StepEnd;
+use crate::task::Task;
+use cdc_code::Instr;
+use cdc_prog::{BinOp, UnOp, binary, unary};
+
+impl Task {
+    // An operator.
+    pub(crate) fn operate(&mut self, instr: Instr, line: u32) -> StepEnd
+        requires place { self.old.pc < 2 ^ 63 }
+        requires kind { IsOperator instr }
+        requires fit { FitsAt instr line self.old }
+        ensures { EndsAt instr line self.old result self.new }
+    {
+        match instr {
+            Instr::Neg => self.apply_unary(UnOp::Neg, line),
+            Instr::Abs => self.apply_unary(UnOp::Abs, line),
+            Instr::Not => self.apply_unary(UnOp::Not, line),
+            Instr::Add => self.apply_binary(BinOp::Add, line),
+            Instr::Sub => self.apply_binary(BinOp::Sub, line),
+            Instr::Mul => self.apply_binary(BinOp::Mul, line),
+            Instr::Div => self.apply_binary(BinOp::Div, line),
+            Instr::Mod => self.apply_binary(BinOp::Mod, line),
+            Instr::Min => self.apply_binary(BinOp::Min, line),
+            Instr::Max => self.apply_binary(BinOp::Max, line),
+            Instr::Eq => self.apply_binary(BinOp::Eq, line),
+            Instr::Ne => self.apply_binary(BinOp::Ne, line),
+            Instr::Lt => self.apply_binary(BinOp::Lt, line),
+            Instr::Le => self.apply_binary(BinOp::Le, line),
+            Instr::Gt => self.apply_binary(BinOp::Gt, line),
+            Instr::Ge => self.apply_binary(BinOp::Ge, line),
+            Instr::And => self.apply_binary(BinOp::And, line),
+            Instr::Or => self.apply_binary(BinOp::Or, line),
+            _ => unreachable!(),
+        }
+    }
+
+    // An operator of one operand.
+    fn apply_unary(&mut self, op: UnOp, line: u32) -> StepEnd
+        requires place { self.old.pc < 2 ^ 63 }
+        requires fit { (words : ℕ) × (records : Input) × FitsIn words records (unary_act op line) self.old }
+        ensures { (records : Input) → EndsOn records (unary_act op line) self.old result self.new }
+    {
+        let Some(x) = self.pop() else {
+            unreachable!();
+        };
+        match unary(op, x) {
+            Ok(value) => {
+                self.push(value);
+                self.advance();
+                StepEnd::Went
+            }
+            Err(kind) => StepEnd::Faulted(kind, line),
+        }
+    }
+
+    // An operator of two operands.
+    fn apply_binary(&mut self, op: BinOp, line: u32) -> StepEnd
+        requires place { self.old.pc < 2 ^ 63 }
+        requires fit { (words : ℕ) × (records : Input) × FitsIn words records (binary_act op line) self.old }
+        ensures { (records : Input) → EndsOn records (binary_act op line) self.old result self.new }
+    {
+        let Some(y) = self.pop() else {
+            unreachable!();
+        };
+        let Some(x) = self.pop() else {
+            unreachable!();
+        };
+        match binary(op, x, y) {
+            Ok(value) => {
+                self.push(value);
+                self.advance();
+                StepEnd::Went
+            }
+            Err(kind) => StepEnd::Faulted(kind, line),
+        }
+    }
+}
