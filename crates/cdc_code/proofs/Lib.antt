@@ -8,4 +8,5 @@ pub mod OneRun
 pub mod Alone
 pub mod Examples
 pub mod OneStep
+pub mod Says
 pub mod InTurn

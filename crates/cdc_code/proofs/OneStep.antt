@@ -1,5 +1,5 @@
 -- One instruction of code that does a process: what is left of the process.
-use Rattle.std.proofs.Common.{◌≡◌, ℕ, ◌+◌, ◌*◌, ◌<◌, ◌≤◌, List, [], ◌∷◌, ◌++◌, refl, sym, subst, arith}
+use Rattle.std.proofs.Common.{◌≡◌, ℕ, ◌+◌, ◌*◌, ◌<◌, ◌≤◌, ℤ, List, [], ◌∷◌, ◌++◌, refl, sym, subst, arith}
 use Rattle.cdc_prog.specs.declared.piece.Piece.{Piece}
 use Rattle.cdc_prog.specs.declared.program.Mark.{Mark}
 use Rattle.cdc_prog.specs.Data.{Store, put}
@@ -23,7 +23,14 @@ pub record IsAtEnd (p : Process) (s : Store) (q : Process) : Type 0 where
   pub left : left p s ≡ s
   pub ending : ending p s ≡ q
 
-module _ (code : Code) (marks : List Mark) (Fits : Frame → Type 0) where
+-- what a process keeps as it goes on
+pub record GoesWith (Keeps : Process → Type 0) : Type 0 where
+  pub load : (path : List ℕ) (site word : ℕ) (next : ℤ → Process) → Keeps (Load path site word next) → (v : ℤ) → Keeps (next v)
+  pub save : (path : List ℕ) (site word : ℕ) (value : ℤ) (next : Process) → Keeps (Save path site word value next) → Keeps next
+  pub say : (piece : Piece) (next : Process) → Keeps (Say piece next) → Keeps next
+  pub tick : (next : Process) → Keeps (Tick next) → Keeps next
+
+module _ (code : Code) (marks : List Mark) (Fits : Frame → Type 0) (Keeps : Process → Type 0) (goes : GoesWith Keeps) where
   -- what the code still does from a frame on a store: a process to which the one before leads, in fewer instructions
   pub record Still (budget : ℕ) (p : Process) (s : Store) (pieces : List Piece) (g : Frame) (t : Store) : Type 0 where
     pub rest : ℕ
@@ -31,6 +38,7 @@ module _ (code : Code) (marks : List Mark) (Fits : Frame → Type 0) where
     pub does : Does code marks Fits rest process g
     pub leads : Leads p s pieces process t
     pub fewer : rest + 8 * ticks process t < budget + 8 * ticks p s
+    pub kept : Keeps p → Keeps process
 
   -- what the act of the frame says of the process
   abbrev pub Stepped : (budget : ℕ) → Process → Store → Act Frame → Type 0
@@ -51,14 +59,21 @@ module _ (code : Code) (marks : List Mark) (Fits : Frame → Type 0) where
     pub stepped : Stepped budget p s (act code f)
 
   -- a tick more before the process
+  later : (b : ℕ) (next : Process) (s : Store) (pieces : List Piece) (g : Frame) (t : Store) → Still (b + 8) next s pieces g t → Still b (Tick next) s pieces g t
+  later b next s pieces g t h = record {
+    rest = h.rest;
+    process = h.process;
+    does = h.does;
+    leads = record { said = h.leads.said; left = h.leads.left; ending = h.leads.ending };
+    fewer = omega (arith, h.fewer);
+    kept = λ k. h.kept (goes.tick next k);
+  }
+
   ticked : (b : ℕ) (next : Process) (s : Store) (a : Act Frame) → Stepped (b + 8) next s a → Stepped b (Tick next) s a
   ticked b next s (Goes g) h = later b next s [] g s h
-    where
-      later : (b : ℕ) (next : Process) (s : Store) (pieces : List Piece) (g : Frame) (t : Store) → Still (b + 8) next s pieces g t → Still b (Tick next) s pieces g t
-      later b next s pieces g t h = record { rest = h.rest; process = h.process; does = h.does; leads = record { said = h.leads.said; left = h.leads.left; ending = h.leads.ending }; fewer = omega (arith, h.fewer) }
-  ticked b next s (Reads path site mark word h) k = record { rest = k.rest; process = k.process; does = k.does; leads = record { said = k.leads.said; left = k.leads.left; ending = k.leads.ending }; fewer = omega (arith, k.fewer) }
-  ticked b next s (Writes path site word v g) k = record { rest = k.rest; process = k.process; does = k.does; leads = record { said = k.leads.said; left = k.leads.left; ending = k.leads.ending }; fewer = omega (arith, k.fewer) }
-  ticked b next s (Prints piece g) k = record { rest = k.rest; process = k.process; does = k.does; leads = record { said = k.leads.said; left = k.leads.left; ending = k.leads.ending }; fewer = omega (arith, k.fewer) }
+  ticked b next s (Reads path site mark word h) k = later b next s [] (h (s word)) s k
+  ticked b next s (Writes path site word v g) k = later b next s [] g (put s word v) k
+  ticked b next s (Prints piece g) k = later b next s (piece ∷ []) g s k
   ticked b next s (Forks path number count from by e h) k =
       (k.0, k.1, k.2, record { said = k.3.said; left = k.3.left; ending = k.3.ending }, k.4, k.5, omega (arith, k.6))
   ticked b next s Joins k = record { said = k.said; left = k.left; ending = k.ending }
@@ -77,7 +92,7 @@ module _ (code : Code) (marks : List Mark) (Fits : Frame → Type 0) where
       go k place (here _ ok) le h = record { fits = ok; stepped = own r.left (omega (arith, le)) h }
       go k place (after n _ g _ ok q rest) le h =
           let remaining : Reach code marks Fits (n + 1 + r.left) g P = record { steps = n; left = r.left; within = omega arith; place = place; comes = rest; does = h } in
-          let still : Still b p s [] g s = record { rest = n + 1 + r.left; process = p; does = again (n + 1 + r.left) g remaining; leads = record { said = refl; left = refl; ending = refl }; fewer = omega (arith, le) } in
+          let still : Still b p s [] g s = record { rest = n + 1 + r.left; process = p; does = again (n + 1 + r.left) g remaining; leads = record { said = refl; left = refl; ending = refl }; fewer = omega (arith, le); kept = λ k. k } in
           record { fits = ok; stepped = subst (Stepped b p s) (sym q) still }
 
   pub one_step : (b : ℕ) (p : Process) (f : Frame) (s : Store) → Does code marks Fits b p f → Steps b p f s
@@ -86,15 +101,15 @@ module _ (code : Code) (marks : List Mark) (Fits : Frame → Type 0) where
       record { fits = h.fits; stepped = ticked b next s (act code f) h.stepped }
   one_step b (Load path site word next) f s d =
       reached b (Load path site word next) f s _ d (λ n g r. r) (λ m lt h.
-      let still : Still b (Load path site word next) s [] (h.0 (s word)) s = record { rest = m; process = next (s word); does = h.2 (s word); leads = record { said = refl; left = refl; ending = refl }; fewer = omega (arith, lt) } in
+      let still : Still b (Load path site word next) s [] (h.0 (s word)) s = record { rest = m; process = next (s word); does = h.2 (s word); leads = record { said = refl; left = refl; ending = refl }; fewer = omega (arith, lt); kept = λ k. goes.load path site word next k (s word) } in
       subst (Stepped b (Load path site word next) s) (sym h.1) still)
   one_step b (Save path site word v next) f s d =
       reached b (Save path site word v next) f s _ d (λ n g r. r) (λ m lt h.
-      let still : Still b (Save path site word v next) s [] h.0 (put s word v) = record { rest = m; process = next; does = h.2; leads = record { said = refl; left = refl; ending = refl }; fewer = omega (arith, lt) } in
+      let still : Still b (Save path site word v next) s [] h.0 (put s word v) = record { rest = m; process = next; does = h.2; leads = record { said = refl; left = refl; ending = refl }; fewer = omega (arith, lt); kept = λ k. goes.save path site word v next k } in
       subst (Stepped b (Save path site word v next) s) (sym h.1) still)
   one_step b (Say piece next) f s d =
       reached b (Say piece next) f s _ d (λ n g r. r) (λ m lt h.
-      let still : Still b (Say piece next) s (piece ∷ []) h.0 s = record { rest = m; process = next; does = h.2; leads = record { said = refl; left = refl; ending = refl }; fewer = omega (arith, lt) } in
+      let still : Still b (Say piece next) s (piece ∷ []) h.0 s = record { rest = m; process = next; does = h.2; leads = record { said = refl; left = refl; ending = refl }; fewer = omega (arith, lt); kept = goes.say piece next } in
       subst (Stepped b (Say piece next) s) (sym h.1) still)
   one_step b (Fork path number count from by body next) f s d =
       reached b (Fork path number count from by body next) f s _ d (λ n g r. r) (λ m lt h.

@@ -7,7 +7,9 @@ use Rattle.cdc_code.specs.declared.room.TheConstants.{STACK, NEST, DEPTH, LOOPS,
 use Rattle.cdc_code.specs.declared.instr.Instr.{Instr}
 use Rattle.cdc_code.specs.declared.instr.Instr.TheVariants as instr
 use Rattle.cdc_code.specs.declared.code.Code.{Code}
+use Rattle.cdc_code.specs.Act.{Act, Prints}
 use Rattle.cdc_code.specs.Frames.{Frame}
+use Rattle.cdc_prog.specs.Pieces.{IsThere}
 
 -- `stack`, `loops` and `args` say how many numbers may lie on the stack, how many DO loops of one unit may be open, and how many arguments may be gathered
 module _ (stack loops args : ℕ → Type 0) where
@@ -87,3 +89,8 @@ IsNamed texts i = Unit {0}
 -- the code names no others
 abbrev pub NamesWithin : Code → Type 0
 NamesWithin code = All (λ i. IsNamed (length code.texts) i.instr) code.steps
+
+-- a piece that is printed is there
+abbrev pub SaysThere : (texts : ℕ) → Act Frame → Type 0
+SaysThere texts (Prints piece next) = IsThere texts piece
+SaysThere texts a = Unit {0}

@@ -1,0 +1,3 @@
+mod Tracks
+mod Hits
+mod Begins
