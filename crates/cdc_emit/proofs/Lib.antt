@@ -1,0 +1,5 @@
+pub mod Targets
+pub mod Renumbered
+pub mod Coded
+pub mod Arms
+pub mod Filled
