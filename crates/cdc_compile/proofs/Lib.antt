@@ -5,3 +5,9 @@ pub mod Nested
 pub mod OneUnits
 pub mod OneLines
 pub mod OneAnswer
+pub mod Narrow
+pub mod Waiting
+pub mod Standing
+pub mod Open
+pub mod Roomy
+pub mod RoomLaws

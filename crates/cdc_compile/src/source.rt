@@ -7,6 +7,8 @@ ghost use Rattle.cdc_tree.specs.Units.{unit};
 ghost use Rattle.cdc_prog.specs.Premises.{KeepsLoopVariables};
 ghost use Rattle.cdc_prog.specs.Resolved.{IsResolved, IsSerial};
 ghost use Rattle.cdc_prog.specs.Translation.{program_of};
+ghost use Rattle.cdc_code.specs.Room.{HasRoom};
+ghost use Rattle.cdc_code.specs.Template.{HasCallNumbers};
 ghost use Rattle.cdc_compile.specs.Source.{HasLines, HasStatements, HasBuiltUnits, IsProgramOf};
 
 use crate::refusal::Refusal;
@@ -65,6 +67,10 @@ pub fn program(alloc: Global, source: &[u8]) -> Result<Program, Refusal>
     ensures resolved { IfOk result (λ p. IsResolved (program_of p)) }
     ensures serial { IfOk result (λ p. IsSerial (program_of p)) }
     ensures keeps { IfOk result (λ p. KeepsLoopVariables (program_of p)) }
+
+    // A task of its code has room: no more than 64 parentheses are open at a place, and no more than 64 blocks.
+    ensures room { IfOk result (λ p. HasRoom (program_of p)) }
+    ensures numbered { IfOk result (λ p. HasCallNumbers (program_of p)) }
 {
     let units = units_of(alloc, source)?;
     Ok(check(alloc, &units)?)
