@@ -11,3 +11,4 @@ pub mod Standing
 pub mod Open
 pub mod Roomy
 pub mod RoomLaws
+pub mod Coded

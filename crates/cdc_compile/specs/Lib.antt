@@ -3,3 +3,4 @@ pub mod Texts
 pub mod Unbuilt
 pub mod Source
 pub mod Laws
+pub mod Compiled

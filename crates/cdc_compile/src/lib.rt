@@ -1,7 +1,10 @@
-//! The compiler from a source to its resolved program, and the texts of its answers.
+//! The compiler from a source to its resolved program and its code, and the texts of its answers.
 #![tactic(auto)]
 
 mod accepted;
+mod compiled;
+#[cfg(test)]
+mod compiled_tests;
 #[cfg(test)]
 mod forms_tests;
 mod laws;
@@ -13,6 +16,7 @@ mod tests;
 mod unbuilt;
 
 pub use accepted::write_accepted;
+pub use compiled::{Compiled, compile};
 pub use laws::one_answer;
 pub use refusal::Refusal;
 pub use refused::write_refusal;

@@ -1,3 +1,4 @@
+use cdc_base::NoMemory;
 use cdc_check::CheckRefusal;
 use cdc_token::LexRefusal;
 use cdc_tree::ParseRefusal;
@@ -53,5 +54,16 @@ impl From<CheckRefusal> for Refusal {
             CheckRefusal::Memory => Refusal::Memory,
             _ => Refusal::Check(refusal),
         }
+    }
+}
+
+impl From<NoMemory> for Refusal {
+    ghost use Rattle.std.specs.Prelude.{◌≡◌};
+    ghost use Rattle.cdc_compile.specs.declared.refusal.Refusal.TheVariants.{Memory};
+
+    ghost from_gives = { λ _ refusal. refusal ≡ Memory };
+
+    fn from(_: NoMemory) -> Refusal {
+        Refusal::Memory
     }
 }

@@ -1,0 +1,65 @@
+//! Sources, and the instructions that the table of templates gives for them.
+
+use crate::compile;
+use cdc_code::Instr;
+use cdc_prog::{Mark, Var};
+use std::test::Fail;
+
+const A: Var = Var::Object(0);
+
+const ONE: &str = "PROGRAM ONE\nN = 2 + 3\nPRINT *, N + 1\nEND\n";
+
+const ONE_STEPS: [(u32, Instr); 10] = [
+    (2, Instr::Const(2)),
+    (2, Instr::Const(3)),
+    (2, Instr::Add),
+    (2, Instr::Store(A, 1)),
+    (3, Instr::Load(A, 2, Mark::Ordinary)),
+    (3, Instr::Const(1)),
+    (3, Instr::Add),
+    (3, Instr::Put),
+    (3, Instr::Line),
+    (0, Instr::Halt),
+];
+
+const LARGE: &str =
+    "PROGRAM P\nINTEGER A(3)\nREAD *, A(2)\nIF (A(2) > 1) PRINT *, 'x', -A(2)\nEND\n";
+
+const LARGE_STEPS: [(u32, Instr); 20] = [
+    (3, Instr::Const(2)),
+    (3, Instr::Index(A)),
+    (3, Instr::Take),
+    (3, Instr::Storee(A, 1)),
+    (3, Instr::RecordEnd),
+    (4, Instr::Const(2)),
+    (4, Instr::Index(A)),
+    (4, Instr::Loade(A, 2, Mark::Ordinary)),
+    (4, Instr::Const(1)),
+    (4, Instr::Gt),
+    (4, Instr::Jumpz(9)),
+    (4, Instr::Text(0)),
+    (4, Instr::Const(2)),
+    (4, Instr::Index(A)),
+    (4, Instr::Loade(A, 3, Mark::Ordinary)),
+    (4, Instr::Neg),
+    (4, Instr::Gap),
+    (4, Instr::Put),
+    (4, Instr::Line),
+    (0, Instr::Halt),
+];
+
+#[test]
+fn a_source_has_its_code(rt: HostRuntime) -> Result<(), Fail> {
+    let cases: [(&str, &[(u32, Instr)]); 2] = [(ONE, &ONE_STEPS), (LARGE, &LARGE_STEPS)];
+    for (source, steps) in cases {
+        let Ok(compiled) = compile(rt.alloc(), source.as_bytes()) else {
+            panic!(rt; "{source}");
+        };
+        assert_eq!(rt; compiled.code.steps.as_slice().len(), steps.len());
+        for (step, (line, instr)) in compiled.code.steps.as_slice().iter().zip(steps) {
+            assert_eq!(rt; step.instr, *instr);
+            assert_eq!(rt; step.line, *line);
+        }
+    }
+    Ok(())
+}
