@@ -356,12 +356,12 @@ accepted us q h =
 program_is : (us : List PUnit) (q : plain.Program) → AreBuilt us → Accepted us q → program_from us ≡ q
 program_is us q built a = sym (serial_numbered (program_from us) (serial_parts us a.none a.quiet built a.passed.few)) ∙ a.passed.is
 
-accepted_is_resolved : (us : List PUnit) (q : plain.Program) → checked us ≡ Ok q → AreBuilt us → 0 < length us → IsResolved q
+pub accepted_is_resolved : (us : List PUnit) (q : plain.Program) → checked us ≡ Ok q → AreBuilt us → 0 < length us → IsResolved q
 accepted_is_resolved us q h built some =
     let a : Accepted us q = accepted us q h in
     subst IsResolved (program_is us q built a) (resolved_parts us a.none a.quiet built some a.passed.few a.passed.small)
 
-accepted_is_serial : (us : List PUnit) (q : plain.Program) → checked us ≡ Ok q → AreBuilt us → IsSerial q
+pub accepted_is_serial : (us : List PUnit) (q : plain.Program) → checked us ≡ Ok q → AreBuilt us → IsSerial q
 accepted_is_serial us q h built =
     let a : Accepted us q = accepted us q h in
     subst IsSerial (program_is us q built a) (serial_parts us a.none a.quiet built a.passed.few)

@@ -12,3 +12,4 @@ pub mod Open
 pub mod Roomy
 pub mod RoomLaws
 pub mod Coded
+pub mod Sound

@@ -95,12 +95,12 @@ units_laid main units k (Ok l) q h =
 abbrev resolved_from : List PUnit → List plain.ProgramUnit × Whole
 resolved_from us = each (units_from 0 us (map scope_of us)) nothing_yet
 
-record Passed (us : List PUnit) (q : plain.Program) : Type 0 where
+pub record Passed (us : List PUnit) (q : plain.Program) : Type 0 where
   pub shapes : EachNone shape_in (map scope_of us)
   pub few : length us ≤ 64
   pub units_are : q.units ≡ units_numbered 0 ((resolved_from us).0)
 
-passed : (us : List PUnit) (q : plain.Program) → checked us ≡ Ok q → Passed us q
+pub passed : (us : List PUnit) (q : plain.Program) → checked us ≡ Ok q → Passed us q
 passed us q h =
     let ss : List PScope = map scope_of us in
     let r : List plain.ProgramUnit × Whole = resolved_from us in
@@ -192,7 +192,7 @@ has_room source q h serial =
     units_room us q has.are_units.are_units shallow (subst (λ ss. first_deep 0 ss ≡ None) has.are_units.parts has.shallow) h.2 serial
 
 -- the CALLs of a program are numbered from 1, however many it has
-numbers : (p : plain.Program) → HasCallNumbers (program_numbered p)
+pub numbers : (p : plain.Program) → HasCallNumbers (program_numbered p)
 numbers p =
     let found : List ℕ = unit_call_numbers (units_numbered 0 p.units) in
     let order : found ≡ range_with_len 1 (calls_in_units p.units) = unit_numbers_in_order 0 p.units in

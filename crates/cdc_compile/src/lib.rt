@@ -17,7 +17,7 @@ mod unbuilt;
 
 pub use accepted::write_accepted;
 pub use compiled::{Compiled, compile};
-pub use laws::one_answer;
+pub use laws::{accepted_sources, one_answer};
 pub use refusal::Refusal;
 pub use refused::write_refusal;
 pub use source::program;

@@ -1,3 +1,3 @@
-mod Tracks
-mod Hits
-mod Begins
+pub mod Tracks
+pub mod Hits
+pub mod Begins

@@ -163,7 +163,7 @@ module _ (code : Code) (marks : List Mark) (main : Process) where
           let e : play code (suc n) m ≡ m = ap (λ (o : Option End). if is_some o then m else play code n (event code m)) is in
           subst Holds (sym e) h
 
-bytes_of_both : (texts : List (List ℕ)) (a b : List Piece) → bytes_of texts (a ++ b) ≡ bytes_of texts a ++ bytes_of texts b
+pub bytes_of_both : (texts : List (List ℕ)) (a b : List Piece) → bytes_of texts (a ++ b) ≡ bytes_of texts a ++ bytes_of texts b
 bytes_of_both texts [] b = refl
 bytes_of_both texts (piece ∷ a) b = ap (λ l. bytes_of_piece texts piece ++ l) (bytes_of_both texts a b) ∙ sym (append_assoc (bytes_of_piece texts piece) (bytes_of texts a) (bytes_of texts b))
 

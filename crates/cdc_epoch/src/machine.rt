@@ -42,6 +42,7 @@ impl Machine {
         records: InputRecords,
     ) -> Result<Machine, NoMemory>
         ensures code { IfOk result (λ machine. machine.code ≡ code) }
+        ensures records { IfOk result (λ machine. machine.records ≡ records) }
         ensures stands { IfOk result (λ machine. StandsFor machine (start code records.records)) }
     {
         let task = Task::serial(&code);
@@ -62,6 +63,7 @@ impl Machine {
     pub fn next(&mut self) -> Option<Piece>
         requires { (m : State) × StandsFor self.old m × IsReady self.old.code m }
         ensures code { self.new.code ≡ self.old.code }
+        ensures records { self.new.records ≡ self.old.records }
         ensures step { (m : State) → StandsFor self.old m → IsReady self.old.code m → Follows self.old.code m result self.new }
     {
         self.events = self.events.saturating_add(1);

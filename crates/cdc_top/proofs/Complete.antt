@@ -36,11 +36,11 @@ none_failed Usage files before now stayed failed = failed
 
 -- ---- the answers over good files
 run_done : (files : Files) (a : Answer) (program input schedule : List ℕ) → AreGood (Run program input schedule) files → RunAnswers files a → IsDone (Run program input schedule) files a.status
-run_done files a program input schedule good (inl refused) = absurd (refused.0 good.0.0 good.0.1)
-run_done files a program input schedule good (inr (source, accepted, inl refused)) = absurd (refused.0 good.1)
-run_done files a program input schedule good (inr (source, accepted, inr (empty, inl refused))) = absurd (refused.0 good.2.0 good.2.1)
-run_done files a program input schedule good (inr (source, accepted, inr (empty, inr (bound, header, is)))) =
-    (source, bound, accepted, header, ap (λ (b : Answer). b.status) is)
+run_done files a program input schedule good (inl refused) = absurd (none_accepted files.program a good.0.0 refused good.0.1)
+run_done files a program input schedule good (inr (accepted, is, inl long)) = absurd (let within : length files.input ≤ 1048576 = good.1.within in omega (arith, long.0, within))
+run_done files a program input schedule good (inr (accepted, is, inr (inl bad))) = absurd (good.1.no_fault bad.0 bad.1.fails.0)
+run_done files a program input schedule good (inr (accepted, is, inr (inr (fine, inl none)))) = absurd (none.0 good.2.0 good.2.1)
+run_done files a program input schedule good (inr (accepted, is, inr (inr (fine, inr (bound, header, same))))) = (accepted, bound, is, header, ap (λ (b : Answer). b.status) same)
 
 seq_done : (files : Files) (a : Answer) (program input : List ℕ) → AreGood (Seq program input) files → SeqAnswers files.program files.input a → IsDone (Seq program input) files a.status
 seq_done files a program input good (inl refused) = absurd (none_accepted files.program a good.0.0 refused good.0.1)

@@ -1,19 +1,19 @@
 -- How a call of the tool ends.
 use Rattle.std.proofs.Common.{◌≡◌, ◌≢◌, ℕ, suc, ◌<◌, List, [], ◌∷◌, length, refl, sym, ◌∙◌, ap, subst, arith, inl, inr}
-use Rattle.std.specs.Prelude.{Option, Some, None, replicate, ◌==◌, true, false}
+use Rattle.std.specs.Prelude.{Option, Some, None, Result, Ok, Err, IsErrOf, replicate}
 use Rattle.std.proofs.lemmas.Bool.Decides.{nat_tests}
 use Rattle.std.proofs.lemmas.List.{length-replicate}
 use Rattle.cdc_base.specs.Outside.{IsWhole, IsLong}
 use Rattle.cdc_base.specs.Causes.{Rose}
-use Rattle.cdc_top.specs.Answer.{usage_text, Command, Usage, ToolEnded, Files, Said, Ended, IsTold, IsAccepted, IsHeader, ScheduleAnswers, InputAnswers, RunAnswers, InputFailed, IsRefusedWith, SaidOneOf, source_refused, input_refused, schedule_refused, ran}
+use Rattle.cdc_base.specs.declared.outside.ReadRefusal.{ReadRefusal}
+use Rattle.cdc_base.specs.declared.outside.ReadRefusal.TheVariants.{Failed, TooLong}
+use Rattle.cdc_top.specs.Answer.{usage_text, Command, Usage, ToolEnded, Files, Said, Ended, IsTold, InputFailed, IsRefusedWith, SaidOneOf}
 use Rattle.cdc_top.specs.Report.{Answer, answer}
 use Rattle.cdc_check.specs.declared.refusal.CheckRefusal.TheVariants.{TooMany}
 use Rattle.cdc_compile.specs.declared.refusal.Refusal.TheVariants.{Check}
 use Rattle.cdc_compile.specs.Texts.{refusal_text}
 use Rattle.cdc_prog.specs.declared.program.Kind.TheVariants as k
-use Rattle.cdc_top.specs.Source.{Source}
 use Rattle.cdc_prog.specs.Limits.{limit}
-use Rattle.cdc_top.specs.declared.limits.TheConstants.{SCHEDULE_LIMIT}
 use Rattle.cdc_top.specs.declared.status.TheConstants.{PROGRAM_REFUSED, OUT_OF_MEMORY}
 
 -- more bytes than a limit
@@ -117,47 +117,6 @@ with_input bytes = record { program = []; input = bytes; schedule = [] }
 abbrev pub with_schedule : List ℕ → Files
 with_schedule bytes = record { program = []; input = []; schedule = bytes }
 
--- a schedule without a bound is refused
-pub schedule_refusal : (source : Source) (files : Files) → ((bound : ℕ) → IsHeader files.schedule bound → ⊥) → ScheduleAnswers source files schedule_refused × ((b : Answer) → ScheduleAnswers source files b → b ≡ schedule_refused)
-schedule_refusal source files none = (inl (none, refl), λ b is. elim is [ inl p ↦ p.1 | inr q ↦ absurd (none q.0 q.1) ])
-
-pub schedule_too_long : (limit : ℕ) (bytes : List ℕ) (bound : ℕ) → limit < length bytes → IsHeader bytes bound → limit ≡ SCHEDULE_LIMIT → ⊥
-schedule_too_long limit bytes bound long header is = omega (arith, long, header.within, is)
-
--- a schedule with a bound is run
-pub schedule_run : (source : Source) (files : Files) (bound : ℕ) → IsHeader files.schedule bound → ((b : ℕ) → IsHeader files.schedule b → b ≡ bound)
-    → ScheduleAnswers source files (ran source bound) × ((b : Answer) → ScheduleAnswers source files b → b ≡ ran source bound)
-schedule_run source files bound header only = (inr (bound, header, refl), λ b is. elim is [ inl p ↦ absurd (p.0 bound header) | inr q ↦ q.2 ∙ ap (ran source) (only q.0 q.1) ])
-
--- bytes over a limit are some
-pub long_some : (limit : ℕ) (bytes : List ℕ) → limit < length bytes → bytes ≢ []
-long_some limit bytes long none = let empty : length bytes ≡ 0 = ap length none in omega (arith, long, empty)
-
--- bytes whose number is tested
-pub not_empty : {bytes : List ℕ} (n : ℕ) → n ≡ length bytes → false ≡ (n == 0) → bytes ≡ [] → ⊥
-not_empty {bytes = bytes} n count tested none = let empty : length bytes ≡ 0 = ap length none in grind (arith, nat_tests, count, tested, empty)
-
-pub empty_is : (bytes : List ℕ) (n : ℕ) → n ≡ length bytes → true ≡ (n == 0) → bytes ≡ []
-empty_is [] n count tested = refl
-empty_is (b ∷ bytes) n count tested = absurd (grind (arith, nat_tests, count, tested))
-
--- an input that is not empty is refused
-pub input_refusal : (source : Source) (files : Files) → files.input ≢ [] → InputAnswers source files input_refused × ((b : Answer) → InputAnswers source files b → b ≡ input_refused)
-input_refusal source files some = (inl (some, refl), λ b is. elim is [ inl p ↦ p.1 | inr q ↦ absurd (some q.0) ])
-
--- behind an empty input the schedule answers
-pub input_behind : (source : Source) (files : Files) (a : Answer) → files.input ≡ [] → InputAnswers source files a → ScheduleAnswers source files a
-input_behind source files a empty is = elim is [ inl p ↦ absurd (p.0 empty) | inr q ↦ q.1 ]
-
--- a program without a source is refused
-pub source_refusal : (files : Files) → ((source : Source) → IsAccepted files.program source → ⊥) → RunAnswers files source_refused × ((b : Answer) → RunAnswers files b → b ≡ source_refused)
-source_refusal files none = (inl (none, refl), λ b is. elim is [ inl p ↦ p.1 | inr q ↦ absurd (none q.0 q.1) ])
-
--- behind an accepted program the input answers
-pub source_behind : (files : Files) (a : Answer) (source : Source) → IsAccepted files.program source → ((other : Source) → IsAccepted files.program other → source ≡ other) → RunAnswers files a → InputAnswers source files a
-source_behind files a source accepted only is =
-    elim is [ inl p ↦ absurd (p.0 source accepted) | inr q ↦ subst (λ (s : Source). InputAnswers s files a) (sym (only q.0 q.1)) q.2 ]
-
 -- a count that rose behind an untouched one rose
 pub failed_before : (input schedule : List ℕ) (files : Files) (before mid now : List ℕ → ℕ) → ((name : List ℕ) → mid name ≡ before name) → InputFailed input schedule files mid now → InputFailed input schedule files before now
 failed_before input schedule files before mid now same failed = elim failed [
@@ -184,3 +143,17 @@ ended_one_of files status old new before now sink_before sink_now told only same
   | inl memory ↦ ended_nothing files status old new before now sink_before sink_now told memory
   | inr answered ↦ ended_said files answered.0 status old new before now sink_before sink_now told answered.1 (only answered.0 answered.1) same answered.2
 ]
+
+-- one of some answers was said, which are answers here
+pub ended_answers : {A : Files → Type 0} {X O : Files → Answer → Type 0} {Y : Answer → Type 0} {F : Files → Type 0} (files : Files) (status : ℕ) (old new : Option (List ℕ)) (before now : List ℕ → ℕ) (sink_before sink_now : ℕ)
+    → A files → ((a : Answer) → Y a → X files a) → ((a : Answer) → X files a → O files a) → ((name : List ℕ) → now name ≡ before name) → SaidOneOf Y status old new sink_before sink_now
+    → Ended A X O F status old new before now sink_before sink_now
+ended_answers files status old new before now sink_before sink_now told to only same said = elim said [
+  | inl memory ↦ ended_nothing files status old new before now sink_before sink_now told memory
+  | inr answered ↦ ended_said files answered.0 status old new before now sink_before sink_now told (to answered.0 answered.1) (only answered.0 (to answered.0 answered.1)) same answered.2
+]
+
+-- too long is not failed
+pub not_failed : {T : Type 0} (r : Result T ReadRefusal) → IsErrOf r TooLong → IsErrOf r Failed → ⊥
+not_failed (Ok x) long failed = absurd (cc long)
+not_failed (Err r) long failed = cc (long, failed)

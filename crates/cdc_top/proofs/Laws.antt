@@ -1,58 +1,76 @@
--- The laws of a run.
-use Rattle.std.proofs.Common.{◌≡◌, ℕ, List, [], ◌∷◌, refl, arith, true}
-use Rattle.std.specs.Prelude.{Option, Some, None, slice_get, ℤ, Result, Ok, Err, ◌+ℤ◌}
-use Rattle.cdc_num.specs.declared.arith.Arith.{Arith}
-use Rattle.cdc_num.specs.Exact.{exact}
-use Rattle.cdc_top.specs.declared.instr.Step.{Step}
-use Rattle.cdc_top.specs.declared.instr.Instr.{Instr}
-use Rattle.cdc_top.specs.declared.instr.Instr.TheVariants as instr
-use Rattle.cdc_top.specs.Laws.{MeansTheSource, HitsGiveMemory, hits}
-use Rattle.cdc_top.specs.Machine.{Machine, turn, act, act_at, added, saved, summed, put_out, one_step, silent, Turn, run}
-use Rattle.cdc_top.specs.Code.{code_of}
-use Rattle.cdc_base.specs.Numbers.{one_more}
-use Rattle.cdc_top.proofs.Names.{if_both}
-use Rattle.cdc_top.proofs.Runs.{run_is_sound}
+-- What the run of accepted files owes.
+use Rattle.std.proofs.Common.{◌≡◌, ℕ, List, [], ◌∷◌, map, subst, sym}
+use Rattle.std.specs.Prelude.{Ok, None}
+use Rattle.std.proofs.lemmas.List.Elements.{All-nil, All-cons, All-head, All-tail}
+use Rattle.std.specs.List.{All}
+use Rattle.cdc_compile.specs.Laws.{IsAccepted}
+use Rattle.cdc_compile.specs.Source.{IsProgramOf}
+use Rattle.cdc_compile.proofs.Sound.{accepted_is_sound}
+use Rattle.cdc_prog.specs.declared.program.Dim.{Dim}
+use Rattle.cdc_prog.specs.declared.program.Dummy.{Dummy}
+use Rattle.cdc_prog.specs.Plain.{Stmt, Skip, Seq, Assign, If, Arm, Do, Doall, Call, Print, Read, Program, ProgramUnit}
+use Rattle.cdc_prog.specs.Input.{Input}
+use Rattle.cdc_prog.specs.Meaning.{meaning}
+use Rattle.cdc_prog.specs.Bodies.{HasOnly}
+use Rattle.cdc_prog.specs.Units.{body_of}
+use Rattle.cdc_code.specs.Sound.{IsSound}
+use Rattle.cdc_input.specs.Records.{records_of}
+use Rattle.cdc_task.specs.Laws.{HasArrays}
+use Rattle.cdc_task.specs.Steps.{IsArray}
+use Rattle.cdc_epoch.specs.Machine.{run}
+use Rattle.cdc_epoch.specs.Laws.{IsMeant, HasNoDoall}
+use Rattle.cdc_epoch.proofs.Tracks.{means_the_program}
+use Rattle.cdc_epoch.proofs.Hits as epoch
+use Rattle.cdc_top.specs.Answer.{compiled_code}
+use Rattle.cdc_top.specs.Laws.{MeansTheSource, HitsGiveMemory}
+use Rattle.cdc_top.specs.Replay.{CanRun}
+
+-- serial code has no DOALL
+without_doall : (s : Stmt) → HasOnly (Unit {0}) ⊥ ⊥ s → HasOnly (Unit {0}) ⊥ (Unit {0}) s
+without_doall Skip only = tt
+without_doall (Seq a b) only = (without_doall a only.0, without_doall b only.1)
+without_doall (Assign line t value) only = tt
+without_doall (If arms) only = without_doall arms only
+without_doall (Arm line cond body other) only = (without_doall body only.0, without_doall other only.1)
+without_doall (Do k first body again bump) only = without_doall body only
+without_doall (Doall k n slots body) only = only
+without_doall (Call line n u others) only = tt
+without_doall (Print line items) only = tt
+without_doall (Read line targets) only = tt
+
+-- units without dummies have no arrays among them
+arrays_in : (us : List ProgramUnit) → All (λ u. u.dummies ≡ []) us → All (λ shapes. All IsArray shapes) (map (λ u. map (λ d. d.dims) u.dummies) us)
+arrays_in [] bare = All-nil (λ (shapes : List (List Dim)). All IsArray shapes)
+arrays_in (u ∷ us) bare =
+    let none : u.dummies ≡ [] = All-head (λ (u : ProgramUnit). u.dummies ≡ []) u us bare in
+    All-cons (λ (shapes : List (List Dim)). All IsArray shapes) (map (λ d. d.dims) u.dummies) (map (λ u. map (λ d. d.dims) u.dummies) us)
+    (subst (λ (ds : List Dummy). All IsArray (map (λ d. d.dims) ds)) (sym none) (All-nil IsArray))
+    (arrays_in us (All-tail (λ (u : ProgramUnit). u.dummies ≡ []) u us bare))
+
+module _ (source : List ℕ) (p : Program) (is : IsProgramOf source (Ok p)) where
+  abbrev accepted : IsAccepted source p
+  accepted = accepted_is_sound source p is
+
+  abbrev sound : IsSound (compiled_code p)
+  sound = accepted.sound.sound
+
+  only : HasNoDoall sound.program
+  only = subst HasNoDoall (sym accepted.sound.program_is) (λ u. without_doall (body_of p u) (accepted.serial u))
+
+  arrays : HasArrays (compiled_code p)
+  arrays = arrays_in p.units accepted.bare
+
+  -- the run of accepted files
+  pub is_meant : (records : Input) (bound : ℕ) → IsMeant p.texts (meaning p records) (run (compiled_code p) records bound)
+  is_meant records bound =
+      subst (λ (q : Program). IsMeant p.texts (meaning q records) (run (compiled_code p) records bound)) accepted.sound.program_is
+      (means_the_program.meaning (compiled_code p) sound arrays only records bound)
+
+  pub can_run : (records : Input) → CanRun (compiled_code p) records
+  can_run records n none = means_the_program.ready (compiled_code p) sound arrays only records n none
 
 pub means_the_source : MeansTheSource
-means_the_source files source bound accepted empty header = (run_is_sound source bound).is_meant
-
-added_hits : (line : ℕ) (result : Result ℤ Arith) (stack : List ℤ) (machine : Machine) → hits (added line result stack machine) ≡ hits machine
-added_hits line (Ok value) stack machine = refl
-added_hits line (Err error) stack machine = refl
-
-saved_hits : (word : ℕ) (stack : List ℤ) (machine : Machine) → hits (saved word stack machine) ≡ hits machine
-saved_hits word [] machine = refl
-saved_hits word (value ∷ stack) machine = refl
-
-summed_hits : (line : ℕ) (stack : List ℤ) (machine : Machine) → hits (summed line stack machine) ≡ hits machine
-summed_hits line [] machine = refl
-summed_hits line (b ∷ []) machine = refl
-summed_hits line (b ∷ a ∷ stack) machine = added_hits line (exact (a +ℤ b)) stack machine
-
-put_hits : (stack : List ℤ) (machine : Machine) → hits (put_out stack machine).machine ≡ hits machine
-put_hits [] machine = refl
-put_hits (value ∷ stack) machine = refl
-
-act_hits : (instr : Instr) (line : ℕ) (stack : List ℤ) (machine : Machine) → hits (act instr line stack machine).machine ≡ hits machine
-act_hits (instr.Const n) line stack machine = refl
-act_hits (instr.Load var site mark) line stack machine = refl
-act_hits (instr.Store var site) line stack machine = saved_hits _ stack machine
-act_hits instr.Add line stack machine = summed_hits line stack machine
-act_hits instr.Put line stack machine = put_hits stack machine
-act_hits instr.Line line stack machine = refl
-act_hits instr.Halt line stack machine = refl
-
-step_hits : (step : Option Step) (machine : Machine) → hits (act_at step machine).machine ≡ hits machine
-step_hits None machine = refl
-step_hits (Some step) machine = act_hits step.instr step.line machine.stack machine
-
--- without lines nothing is counted as a hit
-no_hits : (code : List Step) (machine : Machine) → hits (turn code machine).machine ≡ hits machine
-no_hits code machine =
-    let begun = record machine { events = one_more machine.events } in
-    if_both (λ (t : Turn). hits t.machine ≡ hits machine) machine.taken (act_at (slice_get code machine.place) (one_step begun)) (silent (record begun { taken = true }))
-    (step_hits (slice_get code machine.place) (one_step begun)) refl
+means_the_source files p bound are = is_meant files.program p are.accepted (records_of files.input) bound
 
 pub hits_give_memory : HitsGiveMemory
-hits_give_memory files source bound accepted empty header n within running hit =
-    let same : hits (turn (code_of source) (run source n).machine).machine ≡ hits (run source n).machine = no_hits (code_of source) (run source n).machine in absurd (omega (arith, same, hit))
+hits_give_memory files p bound n are within none hit = epoch.hits_give_memory (compiled_code p) (records_of files.input) n none hit

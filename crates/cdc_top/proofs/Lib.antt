@@ -1,12 +1,9 @@
-pub mod Sources
-pub mod Words
-pub mod Names
-pub mod Runs
-pub mod Texts
+pub mod Digits
 pub mod Replays
-pub mod Answered
-pub mod Laws
 pub mod Ends
+pub mod Laws
+pub mod Said
+pub mod Played
 pub mod Seqs
 pub mod One
 pub mod Complete

@@ -1,7 +1,8 @@
--- `check` and `seq` have one answer, as a source has.
-use Rattle.std.proofs.Common.{◌≡◌, ◌≢◌, ℕ, ◌≤◌, List, [], ◌∷◌, length, map, sym, ◌∙◌, ap, subst, arith, inl, inr, Result, Ok, Err}
+-- `check`, `seq` and `run` have one answer, as a source has.
+use Rattle.std.proofs.Common.{◌≡◌, ◌≢◌, ℕ, ◌≤◌, List, [], ◌∷◌, ◌++◌, length, map, sym, ◌∙◌, ap, subst, arith, inl, inr, Result, Ok, Err}
 use Rattle.std.specs.Prelude.{codes}
-use Rattle.std.proofs.lemmas.List.{length-map}
+use Rattle.std.specs.Str.Parse.{digits_value}
+use Rattle.std.proofs.lemmas.List.{length-map, append_cancel_left, append_cancel_right}
 use Rattle.cdc_base.specs.declared.place.Place.{Place}
 use Rattle.cdc_compile.specs.declared.refusal.Refusal.{Refusal}
 use Rattle.cdc_compile.specs.declared.refusal.Refusal.TheVariants.{Memory}
@@ -13,9 +14,13 @@ use Rattle.cdc_prog.specs.declared.program.Program.{Program}
 use Rattle.cdc_prog.specs.Plain as plain
 use Rattle.cdc_prog.proofs.Numbered.{as_many}
 use Rattle.cdc_prog.specs.Translation.{program_of, unit_of}
-use Rattle.cdc_top.specs.Answer.{IsRefusedWith, CheckAnswers, SeqAnswers}
+use Rattle.cdc_prog.specs.Input.{Input}
+use Rattle.cdc_prog.specs.Meaning.{meaning}
+use Rattle.cdc_input.specs.Records.{records_of}
+use Rattle.cdc_top.specs.Schedule.{before_bound, after_bound}
+use Rattle.cdc_top.specs.Answer.{Files, IsHeader, IsRefusedWith, CheckAnswers, SeqAnswers, ScheduleAnswers, RunAnswers, ran}
 use Rattle.cdc_top.specs.Report.{Answer, answer}
-use Rattle.cdc_top.specs.Sequential.{InputIs, IsBadInput, input_bad}
+use Rattle.cdc_top.specs.Sequential.{InputIs, IsCarriedOut, IsBadInput, input_bad}
 use Rattle.cdc_top.specs.declared.status.TheConstants.{PROGRAM_REFUSED}
 
 abbrev Ends : Type 0
@@ -74,20 +79,42 @@ one_bad : (bytes : List ℕ) (p q : Place) → IsBadInput bytes p → IsBadInput
 one_bad bytes p q a b = one_place p q (a.fails.1 q b.fails.0) (b.fails.1 p a.fails.0)
 
 -- a good input has no fault, and one over its limit is neither good nor bad
-pub one_input : (program : plain.Program) (bytes : List ℕ) (a b : Answer) → InputIs program bytes a → InputIs program bytes b → b ≡ a
-one_input program bytes a b (inl (long, is)) (inl (more, same)) = same ∙ sym is
-one_input program bytes a b (inl (long, is)) (inr (inl (q, bad, same))) = absurd (let w : length bytes ≤ 1048576 = bad.within in omega (arith, long, w))
-one_input program bytes a b (inl (long, is)) (inr (inr (good, same))) = absurd (let w : length bytes ≤ 1048576 = good.within in omega (arith, long, w))
-one_input program bytes a b (inr (inl (p, bad, is))) (inl (more, same)) = absurd (let w : length bytes ≤ 1048576 = bad.within in omega (arith, more, w))
-one_input program bytes a b (inr (inl (p, bad, is))) (inr (inl (q, worse, same))) = same ∙ ap input_bad (one_bad bytes q p worse bad) ∙ sym is
-one_input program bytes a b (inr (inl (p, bad, is))) (inr (inr (good, same))) = absurd (good.no_fault p bad.fails.0)
-one_input program bytes a b (inr (inr (good, is))) (inl (more, same)) = absurd (let w : length bytes ≤ 1048576 = good.within in omega (arith, more, w))
-one_input program bytes a b (inr (inr (good, is))) (inr (inl (q, bad, same))) = absurd (good.no_fault q bad.fails.0)
-one_input program bytes a b (inr (inr (good, is))) (inr (inr (fine, same))) = same ∙ sym is
+pub one_input : (answers : Input → Answer → Type 0) (bytes : List ℕ) (a b : Answer) → (answers (records_of bytes) a → answers (records_of bytes) b → b ≡ a) → InputIs answers bytes a → InputIs answers bytes b → b ≡ a
+one_input answers bytes a b one (inl (long, is)) (inl (more, same)) = same ∙ sym is
+one_input answers bytes a b one (inl (long, is)) (inr (inl (q, bad, same))) = absurd (let w : length bytes ≤ 1048576 = bad.within in omega (arith, long, w))
+one_input answers bytes a b one (inl (long, is)) (inr (inr (good, same))) = absurd (let w : length bytes ≤ 1048576 = good.within in omega (arith, long, w))
+one_input answers bytes a b one (inr (inl (p, bad, is))) (inl (more, same)) = absurd (let w : length bytes ≤ 1048576 = bad.within in omega (arith, more, w))
+one_input answers bytes a b one (inr (inl (p, bad, is))) (inr (inl (q, worse, same))) = same ∙ ap input_bad (one_bad bytes q p worse bad) ∙ sym is
+one_input answers bytes a b one (inr (inl (p, bad, is))) (inr (inr (good, same))) = absurd (good.no_fault p bad.fails.0)
+one_input answers bytes a b one (inr (inr (good, is))) (inl (more, same)) = absurd (let w : length bytes ≤ 1048576 = good.within in omega (arith, more, w))
+one_input answers bytes a b one (inr (inr (good, is))) (inr (inl (q, bad, same))) = absurd (good.no_fault q bad.fails.0)
+one_input answers bytes a b one (inr (inr (good, is))) (inr (inr (fine, same))) = one is same
 
 pub one_seq : (source input : List ℕ) (a b : Answer) → SeqAnswers source input a → SeqAnswers source input b → b ≡ a
 one_seq source input a b (inl refused) (inl other) = one_refusal source a b refused other
 one_seq source input a b (inl refused) (inr (q, is, text)) = absurd (none_accepted source a q refused is)
 one_seq source input a b (inr (p, is, answered)) (inl other) = absurd (none_accepted source b p other is)
 one_seq source input a b (inr (p, is, answered)) (inr (q, same, words)) =
-    one_input p input a b answered (subst (λ (r : plain.Program). InputIs r input b) (one_program source q p same is) words)
+    one_input (IsCarriedOut (meaning p)) input a b (λ one other. other ∙ sym one) answered (subst (λ (r : plain.Program). InputIs (IsCarriedOut (meaning r)) input b) (one_program source q p same is) words)
+
+-- a schedule has one bound
+one_bound : (bytes : List ℕ) (b c : ℕ) → IsHeader bytes b → IsHeader bytes c → c ≡ b
+one_bound bytes b c is other =
+    let d = is.is_schedule in
+    let e = other.is_schedule in
+    let same : d.digits ≡ e.digits = append_cancel_right d.digits e.digits after_bound (append_cancel_left before_bound (d.digits ++ after_bound) (e.digits ++ after_bound) (sym d.bytes_are ∙ e.bytes_are)) in
+    e.is_bound.value ∙ ap (digits_value 10) (sym same) ∙ sym d.is_bound.value
+
+one_schedule : (p : plain.Program) (schedule : List ℕ) (records : Input) (a b : Answer) → ScheduleAnswers p schedule records a → ScheduleAnswers p schedule records b → b ≡ a
+one_schedule p schedule records a b (inl (none, is)) (inl (neither, same)) = same ∙ sym is
+one_schedule p schedule records a b (inl (none, is)) (inr (bound, header, same)) = absurd (none bound header)
+one_schedule p schedule records a b (inr (bound, header, is)) (inl (none, same)) = absurd (none bound header)
+one_schedule p schedule records a b (inr (bound, header, is)) (inr (other, also, same)) = same ∙ ap (ran p records) (one_bound schedule bound other header also) ∙ sym is
+
+pub one_run : (files : Files) (a b : Answer) → RunAnswers files a → RunAnswers files b → b ≡ a
+one_run files a b (inl refused) (inl other) = one_refusal files.program a b refused other
+one_run files a b (inl refused) (inr (q, is, text)) = absurd (none_accepted files.program a q refused is)
+one_run files a b (inr (p, is, answered)) (inl other) = absurd (none_accepted files.program b p other is)
+one_run files a b (inr (p, is, answered)) (inr (q, same, words)) =
+    one_input (ScheduleAnswers p files.schedule) files.input a b (one_schedule p files.schedule (records_of files.input) a b) answered
+    (subst (λ (r : plain.Program). InputIs (ScheduleAnswers r files.schedule) files.input b) (one_program files.program q p same is) words)

@@ -8,11 +8,12 @@ use Rattle.cdc_prog.specs.Lines.{is_open}
 use Rattle.cdc_prog.specs.Meaning.{Meaning}
 use Rattle.cdc_text.specs.Pieces.{GrewByFront}
 use Rattle.cdc_text.proofs.Pieces.{front_first, front_second}
-use Rattle.cdc_top.specs.declared.machine.Outcome.{Outcome}
+use Rattle.cdc_epoch.specs.declared.outcome.Outcome.{Outcome}
+use Rattle.cdc_epoch.specs.Stands.{outcome_of_end}
 use Rattle.cdc_top.specs.Answer.{Said, SaidOneOf}
-use Rattle.cdc_top.specs.Report.{Answer, answer, line_end, end_line, outcome_of_end, status_of}
+use Rattle.cdc_top.specs.Report.{Answer, answer, line_end, end_line, status_of}
 use Rattle.cdc_top.specs.Sequential.{carried_out}
-use Rattle.cdc_top.proofs.Answered.{closes, said_part}
+use Rattle.cdc_top.proofs.Said.{closes, said_part}
 use Rattle.cdc_top.specs.declared.status.TheConstants.{OUT_OF_MEMORY}
 
 -- an answer whose first bytes were written before

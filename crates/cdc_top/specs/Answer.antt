@@ -3,7 +3,7 @@ use Rattle.std.specs.Prelude.{◌≡◌, ◌≢◌, ℕ, ◌≤◌, List, [], �
 use Rattle.std.specs.Str.{bytes_eq}
 use Rattle.cdc_base.specs.Causes.{Rose}
 use Rattle.cdc_base.specs.Outside.{grown}
-use Rattle.cdc_top.specs.Machine.{run}
+use Rattle.cdc_epoch.specs.Machine.{run}
 use Rattle.cdc_compile.specs.declared.refusal.Refusal.{Refusal}
 use Rattle.cdc_compile.specs.declared.refusal.Refusal.TheVariants.{Memory}
 use Rattle.cdc_compile.specs.Source.{IsProgramOf}
@@ -11,11 +11,15 @@ use Rattle.cdc_compile.specs.Texts.{accepted_text, refusal_text}
 use Rattle.cdc_prog.specs.declared.program.Program.{Program}
 use Rattle.cdc_prog.specs.Plain as plain
 use Rattle.cdc_prog.specs.Translation.{program_of}
+use Rattle.cdc_prog.specs.Input.{Input}
+use Rattle.cdc_prog.specs.Meaning.{meaning}
+use Rattle.cdc_code.specs.declared.code.Code.{Code}
+use Rattle.cdc_code.specs.Template.{code_of}
+use Rattle.cdc_compile.specs.Compiled.{ordinary_marks}
 use Rattle.cdc_text.specs.Pieces.{GrewByFront}
-use Rattle.cdc_top.specs.Report.{Answer, answer, joined, printed, outcome_of, status_of}
+use Rattle.cdc_top.specs.Report.{Answer, answer, joined, line, printed, outcome_of, status_of}
 use Rattle.cdc_top.specs.Schedule.{IsSchedule}
-use Rattle.cdc_top.specs.Sequential.{InputIs}
-use Rattle.cdc_top.specs.Source.{Source, IsSource, line}
+use Rattle.cdc_top.specs.Sequential.{InputIs, IsCarriedOut, IsGoodInput}
 use Rattle.cdc_top.specs.Status.{IsFinished}
 use Rattle.cdc_prog.specs.Limits.{limit}
 use Rattle.cdc_prog.specs.declared.program.Kind.TheVariants as kind
@@ -63,42 +67,26 @@ pub record Files : Type 0 where
   pub input : List ℕ
   pub schedule : List ℕ
 
--- a source within its limit that has the form
-pub record IsAccepted (bytes : List ℕ) (source : Source) : Type 0 where
-  pub within : length bytes ≤ limit kind.Source
-  pub is_source : IsSource bytes source
-
 -- a schedule within its limit that has the form, with its bound
 pub record IsHeader (bytes : List ℕ) (bound : ℕ) : Type 0 where
   pub within : length bytes ≤ SCHEDULE_LIMIT
   pub is_schedule : IsSchedule bytes bound
 
-abbrev pub source_refused : Answer
-source_refused = answer (line (codes "refused NotAStatement at line 1")) PROGRAM_REFUSED
-
-abbrev pub input_refused : Answer
-input_refused = answer (line (codes "refused input at 1:1")) INPUT_REFUSED
-
 abbrev pub schedule_refused : Answer
 schedule_refused = answer (line (codes "refused header line 1")) INPUT_REFUSED
 
+-- the code that a program is compiled to
+abbrev pub compiled_code : plain.Program → Code
+compiled_code p = code_of p (ordinary_marks p.sites)
+
 -- a run prints its output and the lines on it, with the status of its end
-abbrev pub ran : Source → ℕ → Answer
-ran source bound = answer (printed (run source bound) bound) (status_of (outcome_of (run source bound).machine))
+abbrev pub ran : plain.Program → Input → (bound : ℕ) → Answer
+ran p records bound = let m = run (compiled_code p) records bound in answer (printed p.texts m bound) (status_of (outcome_of m))
 
--- the schedule is refused, or the run is answered
-abbrev pub ScheduleAnswers : Source → Files → Answer → Type 0
-ScheduleAnswers source files a =
-    (((bound : ℕ) → IsHeader files.schedule bound → ⊥) × (a ≡ schedule_refused)) ⊎ ((bound : ℕ) × IsHeader files.schedule bound × (a ≡ ran source bound))
-
--- before that, the input is refused where it is not empty
-abbrev pub InputAnswers : Source → Files → Answer → Type 0
-InputAnswers source files a = ((files.input ≢ []) × (a ≡ input_refused)) ⊎ ((files.input ≡ []) × ScheduleAnswers source files a)
-
--- before that, the program is refused where it has not the form
-abbrev pub RunAnswers : Files → Answer → Type 0
-RunAnswers files a =
-    (((source : Source) → IsAccepted files.program source → ⊥) × (a ≡ source_refused)) ⊎ ((source : Source) × IsAccepted files.program source × InputAnswers source files a)
+-- the schedule is refused, or the program is run on the records
+abbrev pub ScheduleAnswers : plain.Program → (schedule : List ℕ) → Input → Answer → Type 0
+ScheduleAnswers p schedule records a =
+    (((bound : ℕ) → IsHeader schedule bound → ⊥) × (a ≡ schedule_refused)) ⊎ ((bound : ℕ) × IsHeader schedule bound × (a ≡ ran p records bound))
 
 -- the first refusal of the program is answered; want of memory is no refusal
 abbrev pub IsRefusedWith : List ℕ → Answer → Type 0
@@ -110,7 +98,11 @@ CheckAnswers source a = IsRefusedWith source a ⊎ ((program : Program) × IsPro
 
 -- or the input is refused, or what the program prints on its records is answered, with its end
 abbrev pub SeqAnswers : List ℕ → List ℕ → Answer → Type 0
-SeqAnswers source input a = IsRefusedWith source a ⊎ ((program : plain.Program) × IsProgramOf source (Ok program) × InputIs program input a)
+SeqAnswers source input a = IsRefusedWith source a ⊎ ((program : plain.Program) × IsProgramOf source (Ok program) × InputIs (IsCarriedOut (meaning program)) input a)
+
+-- or the input or the schedule is refused, or the program is run
+abbrev pub RunAnswers : Files → Answer → Type 0
+RunAnswers files a = IsRefusedWith files.program a ⊎ ((program : plain.Program) × IsProgramOf files.program (Ok program) × InputIs (ScheduleAnswers program files.schedule) files.input a)
 
 -- the answer to a command over the bytes of its files
 abbrev pub Answers : Command → Files → Answer → Type 0
@@ -133,11 +125,11 @@ AreTold Usage told files = Unit {0}
 
 -- a file's count rose, and nothing before its reading is refused
 abbrev pub InputFailed : List ℕ → List ℕ → Files → (List ℕ → ℕ) → (List ℕ → ℕ) → Type 0
-InputFailed input schedule files before now = Rose (before input) (now input) ⊎ ((files.input ≡ []) × Rose (before schedule) (now schedule))
+InputFailed input schedule files before now = Rose (before input) (now input) ⊎ (IsGoodInput files.input × Rose (before schedule) (now schedule))
 
 abbrev pub ReadFailed : Command → Files → (List ℕ → ℕ) → (List ℕ → ℕ) → Type 0
 ReadFailed (Run program input schedule) files before now =
-    Rose (before program) (now program) ⊎ ((source : Source) × IsAccepted files.program source × InputFailed input schedule files before now)
+    Rose (before program) (now program) ⊎ ((accepted : plain.Program) × IsProgramOf files.program (Ok accepted) × InputFailed input schedule files before now)
 ReadFailed (Check program) files before now = Rose (before program) (now program)
 ReadFailed (Seq program input) files before now =
     Rose (before program) (now program) ⊎ ((accepted : plain.Program) × IsProgramOf files.program (Ok accepted) × Rose (before input) (now input))

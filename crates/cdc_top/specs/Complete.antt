@@ -1,14 +1,14 @@
 -- What a call promises where its files are told, nothing of them is refused and no count rose: the command is done, or memory ran out.
-use Rattle.std.specs.Prelude.{◌≡◌, ◌⊎◌, ℕ, List, [], Option, Some, Ok}
+use Rattle.std.specs.Prelude.{◌≡◌, ◌⊎◌, ℕ, List, Option, Some, Ok}
 use Rattle.cdc_base.specs.Causes.{Rose}
 use Rattle.cdc_compile.specs.Source.{IsProgramOf}
 use Rattle.cdc_input.specs.Records.{records_of}
 use Rattle.cdc_prog.specs.Meaning.{meaning}
 use Rattle.cdc_prog.specs.Plain.{Program}
-use Rattle.cdc_top.specs.Answer.{Command, Run, Check, Seq, Usage, Files, IsAccepted, IsHeader, ran}
-use Rattle.cdc_top.specs.Report.{outcome_of_end, status_of}
+use Rattle.cdc_epoch.specs.Stands.{outcome_of_end}
+use Rattle.cdc_top.specs.Answer.{Command, Run, Check, Seq, Usage, Files, IsHeader, ran}
+use Rattle.cdc_top.specs.Report.{status_of}
 use Rattle.cdc_top.specs.Sequential.{IsGoodInput}
-use Rattle.cdc_top.specs.Source.{Source}
 use Rattle.cdc_top.specs.declared.status.TheConstants.{DONE, NO_COMMAND, OUT_OF_MEMORY}
 
 -- the store tells the bytes of each file of the command
@@ -24,8 +24,7 @@ HasProgram source = (accepted : Program) × IsProgramOf source (Ok accepted)
 
 -- nothing of the files is refused
 abbrev pub AreGood : Command → Files → Type 0
-AreGood (Run program input schedule) files =
-    ((source : Source) × IsAccepted files.program source) × (files.input ≡ []) × ((bound : ℕ) × IsHeader files.schedule bound)
+AreGood (Run program input schedule) files = HasProgram files.program × IsGoodInput files.input × ((bound : ℕ) × IsHeader files.schedule bound)
 AreGood (Check program) files = HasProgram files.program
 AreGood (Seq program input) files = HasProgram files.program × IsGoodInput files.input
 AreGood Usage files = Unit {0}
@@ -45,7 +44,7 @@ AllStayed Usage before now = Unit {0}
 -- the status says that the command is done: how the run or the program ended, or that the program is accepted
 abbrev pub IsDone : Command → Files → (status : ℕ) → Type 0
 IsDone (Run program input schedule) files status =
-    (source : Source) × (bound : ℕ) × IsAccepted files.program source × IsHeader files.schedule bound × (status ≡ (ran source bound).status)
+    (accepted : Program) × (bound : ℕ) × IsProgramOf files.program (Ok accepted) × IsHeader files.schedule bound × (status ≡ (ran accepted (records_of files.input) bound).status)
 IsDone (Check program) files status = status ≡ DONE
 IsDone (Seq program input) files status =
     (accepted : Program) × IsProgramOf files.program (Ok accepted) × (status ≡ status_of (outcome_of_end (meaning accepted (records_of files.input)).end))

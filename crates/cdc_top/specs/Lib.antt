@@ -1,17 +1,9 @@
 pub mod Answer
 pub mod Chosen
-pub mod Code
 pub mod Complete
 pub mod Laws
-pub mod Machine
-pub mod Meaning
-pub mod Named
-pub mod Ready
 pub mod Replay
 pub mod Report
 pub mod Schedule
 pub mod Sequential
-pub mod Source
 pub mod Status
-pub mod Word
-pub mod Words

@@ -1,23 +1,31 @@
 -- A run that prints as it goes.
-use Rattle.std.specs.Prelude.{◌≡◌, ℕ, ◌-◌, Bool, false, List, [], Option, None}
-use Rattle.cdc_base.specs.Outside.{grown}
-use Rattle.cdc_top.specs.declared.instr.Step.{Step}
-use Rattle.cdc_prog.specs.Lines.{opened}
-use Rattle.cdc_top.specs.Machine.{Machine, State, play}
-use Rattle.cdc_top.specs.Ready.{IsReady}
+use Rattle.std.specs.Prelude.{◌≡◌, ℕ, List, Option, None, Bool}
+use Rattle.cdc_base.specs.Gathered.{waiting, HandsOn}
+use Rattle.cdc_base.specs.declared.gathered.Gathered.{Gathered}
+use Rattle.cdc_code.specs.declared.code.Code.{Code}
+use Rattle.cdc_prog.specs.Input.{Input}
+use Rattle.cdc_prog.specs.Lines.{is_open}
+use Rattle.cdc_prog.specs.Meaning.{bytes_of}
+use Rattle.cdc_epoch.specs.declared.machine.Machine.{Machine}
+use Rattle.cdc_epoch.specs.Machine.{State, start, run}
+use Rattle.cdc_epoch.specs.Ready.{IsReady}
+use Rattle.cdc_epoch.specs.Stands.{StandsFor}
 
--- a machine that has printed nothing
-abbrev pub fresh : Machine → State
-fresh machine = record { machine = machine; output = [] }
+-- each event of the run of this code on these records can be applied
+abbrev pub CanRun : Code → Input → Type 0
+CanRun code records = (n : ℕ) → (run code records n).ended ≡ None → IsReady code (run code records n)
 
--- each instruction that the machine comes to can be carried out
-abbrev pub Runs : List Step → State → Type 0
-Runs code state = (n : ℕ) → (play code n state).machine.ended ≡ None → IsReady code (play code n state).machine
+-- the machine has this code and these records, and is where so many events lead
+pub record Ran (code : Code) (records : Input) (n : ℕ) (machine : Machine) : Type 0 where
+  pub code_is : machine.code ≡ code
+  pub records_are : machine.records.records ≡ records
+  pub stands : StandsFor machine (run code records n)
 
--- some events were applied, and what they print was written
-pub record Replaying (code : List Step) (first now : Machine) (applied bound : ℕ) (old new : Option (List ℕ)) (is_open : Bool) : Type 0 where
-  pub output : List ℕ
-  pub rest : play code (bound - applied) (record { machine = now; output = output }) ≡ play code bound (fresh first)
-  pub runs : Runs code (record { machine = now; output = output })
-  pub took : new ≡ grown old output
-  pub line : is_open ≡ opened false output
+abbrev pub output_after : Code → Input → (events : ℕ) → List ℕ
+output_after code records n = bytes_of code.texts (run code records n).printed
+
+-- so many events were applied, and what they print was gathered
+pub record Replaying (code : Code) (records : Input) (applied : ℕ) (machine : Machine) (gathered : Gathered) (old new : Option (List ℕ)) (open_now : Bool) : Type 0 where
+  pub ran : Ran code records applied machine
+  pub hands : HandsOn old new (output_after code records applied) (waiting gathered)
+  pub line : open_now ≡ is_open (output_after code records applied)

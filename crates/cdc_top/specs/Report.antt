@@ -1,16 +1,17 @@
 -- The lines that `run` prints behind the program's output.
 use Rattle.std.specs.Prelude.{ℕ, if◌then◌else◌, List, [], ◌∷◌, ◌++◌, codes, pos, unwrap_or}
+use Rattle.std.specs.Option.{option_map}
 use Rattle.cdc_num.specs.Decimal.{decimal_bytes}
 use Rattle.cdc_prog.specs.declared.program.FaultKind.{FaultKind}
 use Rattle.cdc_prog.specs.declared.program.FaultKind.TheVariants.{Overflow, ZeroDivisor, Subscript, ZeroStep, TripTooLarge, InputEnded}
-use Rattle.cdc_prog.specs.InOrder.{End}
-use Rattle.cdc_prog.specs.InOrder as end
+use Rattle.cdc_prog.specs.Meaning.{bytes_of}
 use Rattle.cdc_prog.specs.Lines.{is_open}
-use Rattle.cdc_top.specs.declared.machine.Outcome.{Outcome}
-use Rattle.cdc_top.specs.declared.machine.Outcome.TheVariants.{Done, Fault, Stopped}
-use Rattle.cdc_top.specs.declared.machine.Counts.{Counts}
+use Rattle.cdc_fabric.specs.declared.counts.Counts.{Counts}
+use Rattle.cdc_epoch.specs.declared.outcome.Outcome.{Outcome}
+use Rattle.cdc_epoch.specs.declared.outcome.Outcome.TheVariants.{Done, Fault, Stopped}
+use Rattle.cdc_epoch.specs.Machine.{State}
+use Rattle.cdc_epoch.specs.Stands.{outcome_of_end}
 use Rattle.cdc_top.specs.declared.status.TheConstants.{DONE, FAULTED, STOPPED}
-use Rattle.cdc_top.specs.Machine.{Machine, State}
 
 -- the bytes that are printed, and the status
 pub record Answer : Type 0 where
@@ -39,6 +40,9 @@ joined (text ∷ texts) = text ++ joined texts
 abbrev pub line_feed : List ℕ
 line_feed = 10 ∷ []
 
+abbrev pub line : List ℕ → List ℕ
+line text = text ++ line_feed
+
 abbrev pub end_line : Outcome → List ℕ
 end_line Done = joined (codes "= end done" ∷ line_feed ∷ [])
 end_line (Fault kind at) = joined (codes "= end fault " ∷ kind_text kind ∷ codes " at line " ∷ number at ∷ line_feed ∷ [])
@@ -58,24 +62,19 @@ count_line counts = joined (
     ∷ codes " invalidated " ∷ number counts.invalidated ∷ line_feed ∷ [])
 
 -- how the run ended; where the machine has not ended it was stopped
-abbrev pub outcome_of : Machine → Outcome
-outcome_of machine = unwrap_or machine.ended Stopped
-
--- how a program ended on one memory
-abbrev pub outcome_of_end : End → Outcome
-outcome_of_end end.Done = Done
-outcome_of_end (end.Faulted f) = Fault f.kind f.line
+abbrev pub outcome_of : State → Outcome
+outcome_of m = unwrap_or (option_map outcome_of_end m.ended) Stopped
 
 -- the line end that an output may lack
 abbrev pub line_end : List ℕ → List ℕ
 line_end output = if is_open output then 10 ∷ [] else []
 
-abbrev pub report : Machine → ℕ → List ℕ
-report machine bound = end_line (outcome_of machine) ++ (event_lines machine.events bound ++ count_line machine.counts)
+abbrev pub report : Outcome → (events bound : ℕ) → Counts → List ℕ
+report outcome events bound counts = end_line outcome ++ (event_lines events bound ++ count_line counts)
 
--- all that a run with that bound prints
-abbrev pub printed : State → ℕ → List ℕ
-printed state bound = state.output ++ (line_end state.output ++ report state.machine bound)
+-- all that a run with that bound prints, where these are the texts of its program
+abbrev pub printed : (texts : List (List ℕ)) → State → (bound : ℕ) → List ℕ
+printed texts m bound = let output = bytes_of texts m.printed in output ++ (line_end output ++ report (outcome_of m) m.events bound m.counts)
 
 -- by how the run or the program ended
 abbrev pub status_of : Outcome → ℕ

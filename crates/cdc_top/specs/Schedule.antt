@@ -1,7 +1,17 @@
 -- The one form of a schedule that `run` takes: seven lines, with a bound of its own.
-use Rattle.std.specs.Prelude.{◌≡◌, ℕ, ◌^◌, ◌≤◌, List, ◌∷◌, ◌++◌, codes}
+use Rattle.std.specs.Prelude.{◌≡◌, ℕ, ◌^◌, ◌≤◌, ◌&&◌, nat_le, Bool, List, ◌∷◌, ◌++◌, length, codes}
+use Rattle.std.specs.List.{AllPass}
 use Rattle.std.specs.Str.Parse.{digits_value}
-use Rattle.cdc_top.specs.Source.{AreDigits, line}
+use Rattle.cdc_top.specs.Report.{line}
+
+abbrev pub is_digit : ℕ → Bool
+is_digit b = nat_le 48 b && nat_le b 57
+
+-- digits, of which there are 1 to a limit
+pub record AreDigits (most : ℕ) (word : List ℕ) : Type 0 where
+  pub digits : AllPass is_digit word
+  pub some : 1 ≤ length word
+  pub short : length word ≤ most
 
 -- what stands before the bound and behind it
 abbrev pub before_bound : List ℕ

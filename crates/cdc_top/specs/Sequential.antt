@@ -1,13 +1,13 @@
--- What `seq` answers for an accepted program: it is carried out on one memory.
+-- What `seq` and `run` answer for an accepted program, up to its records, and what `seq` answers then: it is carried out on one memory.
 use Rattle.std.specs.Prelude.{◌≡◌, ◌⊎◌, ℕ, ◌<◌, ◌≤◌, List, [], ◌∷◌, ◌++◌, length, codes}
 use Rattle.cdc_base.specs.declared.place.Place.{Place}
 use Rattle.cdc_input.specs.declared.file.InputRefusal.TheVariants.{BadNumber}
 use Rattle.cdc_input.specs.Records.{records_of}
 use Rattle.cdc_input.specs.Refusals.{HasNoFault, Fails}
-use Rattle.cdc_prog.specs.Meaning.{Meaning, meaning}
-use Rattle.cdc_prog.specs.Plain.{Program}
-use Rattle.cdc_top.specs.Report.{Answer, answer, joined, number, line_feed, line_end, end_line, outcome_of_end, status_of}
-use Rattle.cdc_top.specs.Source.{line}
+use Rattle.cdc_prog.specs.Meaning.{Meaning}
+use Rattle.cdc_prog.specs.Input.{Input}
+use Rattle.cdc_top.specs.Report.{Answer, answer, joined, number, line_feed, line, line_end, end_line, status_of}
+use Rattle.cdc_epoch.specs.Stands.{outcome_of_end}
 use Rattle.cdc_top.specs.declared.limits.TheConstants.{INPUT_LIMIT}
 use Rattle.cdc_top.specs.declared.status.TheConstants.{INPUT_REFUSED}
 
@@ -31,9 +31,13 @@ input_bad place = answer (joined (codes "refused input at " ∷ number place.lin
 abbrev pub carried_out : Meaning → Answer
 carried_out m = answer (m.bytes ++ (line_end m.bytes ++ end_line (outcome_of_end m.end))) (status_of (outcome_of_end m.end))
 
--- the input is refused, or the program is carried out on its records
-abbrev pub InputIs : Program → List ℕ → Answer → Type 0
-InputIs program bytes a =
+-- the input is refused, or its records are answered
+abbrev pub InputIs : (answers : Input → Answer → Type 0) → List ℕ → Answer → Type 0
+InputIs answers bytes a =
     ((INPUT_LIMIT < length bytes) × (a ≡ input_too_long))
     ⊎ (((place : Place) × IsBadInput bytes place × (a ≡ input_bad place))
-    ⊎ (IsGoodInput bytes × (a ≡ carried_out (meaning program (records_of bytes)))))
+    ⊎ (IsGoodInput bytes × answers (records_of bytes) a))
+
+-- the program is carried out on the records
+abbrev pub IsCarriedOut : (meaning_on : Input → Meaning) → Input → Answer → Type 0
+IsCarriedOut meaning_on records a = a ≡ carried_out (meaning_on records)

@@ -1,71 +1,64 @@
 // A run that prints as it goes.
-ghost use Rattle.std.specs.Prelude.{◌≡◌, [], ◌∷◌, Bool, true, false, IfOk};
-ghost use Rattle.cdc_num.specs.Decimal.{decimal_bytes};
-ghost use Rattle.cdc_prog.specs.Lines.{opened};
-ghost use Rattle.cdc_top.specs.Machine.{play, piece_bytes};
-ghost use Rattle.cdc_text.specs.Pieces.{Wrote};
-ghost use Rattle.cdc_top.specs.Replay.{Runs, fresh};
+ghost use Rattle.std.specs.Prelude.{◌≡◌, ◌++◌, [], length, OnOk, OnErr, IfOk, IfSome};
+ghost use Rattle.cdc_base.specs.Gathered.{waiting, HandsOn};
+ghost use Rattle.cdc_base.specs.Outside.{GrewInPart};
+ghost use Rattle.cdc_base.specs.Causes.{HasCause};
+ghost use Rattle.cdc_prog.specs.Lines.{opened, is_open as is_open_behind};
+ghost use Rattle.cdc_prog.specs.Meaning.{bytes_of};
+ghost use Rattle.cdc_prog.specs.Pieces.{IsThere};
+ghost use Rattle.cdc_epoch.specs.Stands.{pieces_of};
+ghost use Rattle.cdc_text.specs.Pieces.{GrewByFront};
+ghost use Rattle.cdc_top.specs.Replay.{CanRun, Ran, output_after};
 
-use crate::instr::Step;
-use crate::machine::{Machine, Piece};
-use cdc_base::{Sink, SinkFault};
-use cdc_num::decimal;
-use cdc_text::write_words;
+use cdc_base::{Gathered, List, Sink, SinkFault};
+use cdc_epoch::{Machine, Piece};
+use cdc_prog::{opens, put_piece};
 
-// Writes a number in decimal, which leaves a line open.
-fn write_number<K: Sink>(out: &mut K, value: i64) -> Result<(), SinkFault>
-    ensures wrote { Wrote (decimal_bytes value) result (K.taken out.old) (K.taken out.new) (K.faults out.old) (K.faults out.new) }
-    ensures opens { (before : Bool) → true ≡ opened before (decimal_bytes value) }
+// Puts what an event prints behind what waits, and says whether a line is open behind it.
+fn put_event<K: Sink>(
+    out: &mut K,
+    gathered: &mut Gathered,
+    texts: &[List<u8>],
+    piece: Option<Piece>,
+    is_open: bool,
+) -> Result<bool, SinkFault>
+    requires { IfSome piece (IsThere (length texts.now)) }
+    ensures ok { OnOk result (HandsOn (K.taken out.old) (K.taken out.new) (waiting gathered.old ++ bytes_of texts.now (pieces_of piece)) (waiting gathered.new)) }
+    ensures failed { OnErr result (GrewInPart (K.taken out.old) (K.taken out.new) (waiting gathered.old ++ bytes_of texts.now (pieces_of piece))) }
+    ensures cause { HasCause (K.faults out.old) (K.faults out.new) result }
+    ensures line { IfOk result (λ later. later ≡ opened is_open (bytes_of texts.now (pieces_of piece))) }
 {
-    let text = decimal(value);
-    write_words(out, text.as_bytes())
+    let Some(piece) = piece else {
+        return Ok(is_open);
+    };
+    put_piece(out, gathered, texts, piece)?;
+    Ok(opens(texts, piece, is_open))
 }
 
-// Writes a line end.
-fn write_line<K: Sink>(out: &mut K) -> Result<(), SinkFault>
-    ensures { Wrote (10 ∷ []) result (K.taken out.old) (K.taken out.new) (K.faults out.old) (K.faults out.new) }
-{
-    write_words(out, b"\n")
-}
-
-// Writes what an event prints, and says whether a line is open behind it.
-fn write_piece<K: Sink>(out: &mut K, piece: Option<Piece>, is_open: bool) -> Result<bool, SinkFault>
-    ensures wrote { Wrote (piece_bytes piece) result (K.taken out.old) (K.taken out.new) (K.faults out.old) (K.faults out.new) }
-    ensures line { IfOk result (λ later. later ≡ opened is_open (piece_bytes piece)) }
-{
-    match piece {
-        None => Ok(is_open),
-        Some(Piece::Number(value)) => {
-            write_number(out, value)?;
-            Ok(true)
-        }
-        Some(Piece::LineEnd) => {
-            write_line(out)?;
-            Ok(false)
-        }
-    }
-}
-
-/// Applies events until the machine has ended or so many were applied, and writes what they print.
-/// Says whether the last line is open.
+/// Applies events to a machine that is before its first, until it has ended or so many were applied, and gathers what
+/// they print. Says whether the last line is open.
 pub fn replay<K: Sink>(
     machine: &mut Machine,
-    code: &[Step],
     bound: u64,
+    gathered: &mut Gathered,
     out: &mut K,
 ) -> Result<bool, SinkFault>
-    requires { Runs code.now (fresh machine.old) }
-    ensures machine { IfOk result (λ is_open. machine.new ≡ (play code.now bound (fresh machine.old)).machine) }
-    ensures line { IfOk result (λ is_open. is_open ≡ opened false (play code.now bound (fresh machine.old)).output) }
-    ensures wrote { Wrote (play code.now bound (fresh machine.old)).output result (K.taken out.old) (K.taken out.new) (K.faults out.old) (K.faults out.new) }
+    requires empty { waiting gathered.old ≡ [] }
+    requires first { Ran machine.old.code machine.old.records.records 0 machine.old }
+    requires can { CanRun machine.old.code machine.old.records.records }
+    ensures machine { IfOk result (λ o. Ran machine.old.code machine.old.records.records bound machine.new) }
+    ensures line { IfOk result (λ o. o ≡ is_open_behind (output_after machine.old.code machine.old.records.records bound)) }
+    ensures ok { OnOk result (HandsOn (K.taken out.old) (K.taken out.new) (output_after machine.old.code machine.old.records.records bound) (waiting gathered.new)) }
+    ensures failed { OnErr result (GrewByFront (K.taken out.old) (K.taken out.new) (output_after machine.old.code machine.old.records.records bound)) }
+    ensures cause { HasCause (K.faults out.old) (K.faults out.new) result }
 {
     let mut is_open = false;
     for _applied in 0..bound {
         if machine.ended().is_some() {
             return Ok(is_open);
         }
-        let piece = machine.next(code);
-        is_open = write_piece(out, piece, is_open)?;
+        let piece = machine.next();
+        is_open = put_event(out, gathered, machine.texts(), piece, is_open)?;
     }
     Ok(is_open)
 }

@@ -1,12 +1,13 @@
 // The lines that `run` prints behind the program's output.
 ghost use Rattle.std.specs.Prelude.{◌≡◌, [], ◌∷◌, ◌++◌, if◌then◌else◌};
 ghost use Rattle.cdc_text.specs.Pieces.{Wrote};
+ghost use Rattle.cdc_epoch.specs.Stands.{counts_of};
 ghost use Rattle.cdc_top.specs.Status.{IsFinished};
-ghost use Rattle.cdc_top.specs.Report.{kind_text, end_line, event_lines, count_line, report, status_of, outcome_of};
+ghost use Rattle.cdc_top.specs.Report.{kind_text, end_line, event_lines, count_line, report, status_of};
 
-use crate::machine::{Counts, Machine, Outcome};
 use crate::status::{DONE, FAULTED, STOPPED};
 use cdc_base::{Sink, SinkFault};
+use cdc_epoch::{Counts, Machine, Outcome};
 use cdc_prog::FaultKind;
 use cdc_text::{Text, write_texts, write_words};
 
@@ -102,13 +103,6 @@ fn close_line<K: Sink>(out: &mut K, is_open: bool) -> Result<(), SinkFault>
     Ok(())
 }
 
-/// How a run ended; where the machine has not ended it was stopped.
-pub fn outcome(machine: &Machine) -> Outcome
-    ensures { result ≡ outcome_of machine.now }
-{
-    machine.ended().unwrap_or(Outcome::Stopped)
-}
-
 /// Writes the line end that the output may lack, and then how it ended.
 pub fn write_closing<K: Sink>(out: &mut K, is_open: bool, outcome: Outcome) -> Result<(), SinkFault>
     ensures { Wrote ((if is_open then 10 ∷ [] else []) ++ end_line outcome) result (K.taken out.old) (K.taken out.new) (K.faults out.old) (K.faults out.new) }
@@ -136,35 +130,24 @@ fn write_lines<K: Sink>(
     bound: u64,
     counts: Counts,
 ) -> Result<(), SinkFault>
-    ensures { Wrote (end_line outcome ++ (event_lines events bound ++ count_line counts)) result (K.taken out.old) (K.taken out.new) (K.faults out.old) (K.faults out.new) }
+    ensures { Wrote (report outcome events bound counts) result (K.taken out.old) (K.taken out.new) (K.faults out.old) (K.faults out.new) }
 {
     write_end(out, outcome)?;
     write_facts(out, events, bound, counts)
 }
 
-fn write_run<K: Sink>(out: &mut K, machine: &Machine, bound: u64) -> Result<(), SinkFault>
-    ensures { Wrote (report machine.now bound) result (K.taken out.old) (K.taken out.new) (K.faults out.old) (K.faults out.new) }
-{
-    write_lines(
-        out,
-        outcome(machine),
-        machine.events(),
-        bound,
-        machine.counts(),
-    )
-}
-
 /// Writes the line end that the output may lack, and then the lines on the run.
 pub fn write_report<K: Sink>(
     out: &mut K,
-    machine: &Machine,
     is_open: bool,
+    outcome: Outcome,
+    machine: &Machine,
     bound: u64,
 ) -> Result<(), SinkFault>
-    ensures { Wrote ((if is_open then 10 ∷ [] else []) ++ report machine.now bound) result (K.taken out.old) (K.taken out.new) (K.faults out.old) (K.faults out.new) }
+    ensures { Wrote ((if is_open then 10 ∷ [] else []) ++ report outcome machine.now.events bound (counts_of machine.now)) result (K.taken out.old) (K.taken out.new) (K.faults out.old) (K.faults out.new) }
 {
     close_line(out, is_open)?;
-    write_run(out, machine, bound)
+    write_lines(out, outcome, machine.events(), bound, machine.counts())
 }
 
 /// The status that a run ends with.

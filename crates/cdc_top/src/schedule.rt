@@ -1,11 +1,36 @@
 // The one form of a schedule: seven lines, with a bound of its own.
-ghost use Rattle.std.specs.Prelude.{◌≡◌, ◌≢◌, ◌++◌, ◌≤◌, ◌<◌, ◌^◌, ℕ, List, length, pos, IfSome, IsSomeAnd, MatchOption, Some};
+ghost use Rattle.std.specs.Prelude.{◌≡◌, ◌≢◌, ◌++◌, ◌≤◌, ◌<◌, ◌^◌, ℕ, List, length, pos, true, false, IfSome, IsSomeAnd, MatchOption, Some};
 ghost use Rattle.std.specs.List.{AllPass};
 ghost use Rattle.std.specs.Str.Parse.{digits_value};
-ghost use Rattle.cdc_top.specs.Source.{is_digit};
-ghost use Rattle.cdc_top.specs.Schedule.{IsSchedule, IsBound, before_bound, after_bound};
+ghost use Rattle.cdc_top.specs.Schedule.{is_digit, AreDigits, IsSchedule, IsBound, before_bound, after_bound};
 
-use crate::source::{are_digits, behind, number};
+// What follows a text at the front of the bytes.
+fn behind<'a>(before: &[u8], bytes: &'a [u8]) -> Option<&'a [u8]>
+    ensures { MatchOption result ((rest : List ℕ) → bytes.now ≢ before.now ++ rest) (λ r. bytes.now ≡ before.now ++ r.now) }
+{
+    bytes.strip_prefix(before)
+}
+
+// Whether the bytes are digits, of which there are 1 to a limit.
+fn are_digits(word: &[u8], most: usize) -> bool
+    ensures yes { result ≡ true → AreDigits most word.now }
+    ensures no { result ≡ false → AreDigits most word.now → ⊥ }
+{
+    !word.is_empty() && word.len() <= most && word.iter().all(|b| b.is_ascii_digit())
+}
+
+// The number that digits write, of which there are at most 18.
+fn number(digits: &[u8]) -> u64
+    requires { AreDigits 18 digits.now }
+    ensures value { result ≡ digits_value 10 digits.now }
+    ensures small { result < 10 ^ 18 }
+{
+    let mut value: u64 = 0;
+    for digit in digits {
+        value = value * 10 + (*digit - b'0') as u64;
+    }
+    value
+}
 
 // What stands before a text at the end of the bytes.
 fn ahead<'a>(bytes: &'a [u8], after: &[u8]) -> Option<&'a [u8]>

@@ -8,21 +8,20 @@ ghost use Rattle.cdc_prog.specs.Resolved.{IsResolved, IsSerial};
 ghost use Rattle.cdc_prog.specs.Translation.{program_of};
 ghost use Rattle.cdc_top.specs.Answer.{Seq, SeqAnswers, IsTold, Ended, ToolEnded, Said, SaidOneOf};
 ghost use Rattle.cdc_top.specs.Report.{answer, end_line, status_of};
-ghost use Rattle.cdc_top.specs.Sequential.{InputIs, carried_out, input_bad};
+ghost use Rattle.cdc_top.specs.Sequential.{InputIs, IsCarriedOut, carried_out};
 
 use crate::check::say_refused;
+use crate::input::{say_bad_input, say_long_input};
 use crate::limits::INPUT_LIMIT;
-use crate::machine::Outcome;
 use crate::report::{status, write_closing};
-use crate::run::say;
-use crate::status::{INPUT_REFUSED, OUT_OF_MEMORY, READ_FAULT, WRITE_FAULT};
-use cdc_base::{Place, ReadRefusal, Sink, Store, read_all};
+use crate::status::{OUT_OF_MEMORY, READ_FAULT, WRITE_FAULT};
+use cdc_base::{ReadRefusal, Sink, Store, read_all};
 use cdc_check::CheckRefusal;
 use cdc_compile::{Refusal, program};
+use cdc_epoch::Outcome;
 use cdc_input::{InputRecords, InputRefusal, records};
 use cdc_meaning::{Plain, run_lines};
 use cdc_prog::{Kind, Program, limit};
-use cdc_text::{Text, write_texts};
 use std::alloc::Global;
 
 // Writes the line end that an output may lack, and how the program ended.
@@ -51,29 +50,12 @@ fn play<K: Sink>(alloc: Global, program: &Program, records: &InputRecords, out: 
     }
 }
 
-// Tells where an input is no input.
-fn say_bad_input<K: Sink>(place: Place, out: &mut K) -> u8
-    ensures { Said (input_bad place) result (K.taken out.old) (K.taken out.new) (K.faults out.old) (K.faults out.new) }
-{
-    let texts = [
-        Text::Words(b"refused input at "),
-        Text::Number(place.line as u64),
-        Text::Words(b":"),
-        Text::Number(place.column as u64),
-        Text::Words(b"\n"),
-    ];
-    match write_texts(out, &texts) {
-        Ok(()) => INPUT_REFUSED,
-        Err(_) => WRITE_FAULT,
-    }
-}
-
 // Carries out a program on the bytes of its input.
 fn play_input<K: Sink>(alloc: Global, program: &Program, input: &[u8], out: &mut K) -> u8
     requires resolved { IsResolved (program_of program.now) }
     requires serial { IsSerial (program_of program.now) }
     requires within { length input.now ≤ INPUT_LIMIT }
-    ensures { SaidOneOf (InputIs (program_of program.now) input.now) result (K.taken out.old) (K.taken out.new) (K.faults out.old) (K.faults out.new) }
+    ensures { SaidOneOf (InputIs (IsCarriedOut (meaning (program_of program.now))) input.now) result (K.taken out.old) (K.taken out.new) (K.faults out.old) (K.faults out.new) }
 {
     match records(alloc, input) {
         Ok(records) => play(alloc, program, &records, out),
@@ -92,16 +74,14 @@ fn seq_program<S: Store, K: Sink>(
 ) -> u8
     requires resolved { IsResolved (program_of program.now) }
     requires serial { IsSerial (program_of program.now) }
-    ensures { Ended (λ files. IsTold (S.told store.old input.now) files.input) (λ files a. InputIs (program_of program.now) files.input a) (λ files a. InputIs (program_of program.now) files.input a)
+    ensures { Ended (λ files. IsTold (S.told store.old input.now) files.input) (λ files a. InputIs (IsCarriedOut (meaning (program_of program.now))) files.input a) (λ files a. InputIs (IsCarriedOut (meaning (program_of program.now))) files.input a)
         (λ files. Rose (S.faults store.old input.now) (S.faults store.new input.now)) result
         (K.taken out.old) (K.taken out.new) (S.faults store.old) (S.faults store.new) (K.faults out.old) (K.faults out.new) }
 {
     match read_all(alloc, store, input, INPUT_LIMIT) {
         Err(ReadRefusal::Memory) => OUT_OF_MEMORY,
         Err(ReadRefusal::Failed) => READ_FAULT,
-        Err(ReadRefusal::TooLong) => {
-            say(out, b"refused input over 1048576 bytes\n", INPUT_REFUSED)
-        }
+        Err(ReadRefusal::TooLong) => say_long_input(out),
         Ok(bytes) => play_input(alloc, program, &bytes, out),
     }
 }

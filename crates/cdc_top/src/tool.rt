@@ -1,20 +1,14 @@
 // The top call: one command of a command line.
 ghost use Rattle.std.specs.Prelude.{◌≡◌, ℕ, List, map, string_bytes};
-ghost use Rattle.cdc_base.specs.Causes.{Rose};
-ghost use Rattle.cdc_top.specs.Answer.{Usage, Run, Check, run_of, check_of, seq_of, command_of, is_name, IsAccepted, IsHeader, ScheduleAnswers, InputAnswers, InputFailed, IsTold, Only, Ended, ToolEnded};
+ghost use Rattle.cdc_top.specs.Answer.{Usage, Check, run_of, check_of, seq_of, command_of, is_name, ToolEnded};
 ghost use Rattle.cdc_top.specs.Chosen.{chosen};
 ghost use Rattle.cdc_top.specs.Complete.{Completes};
 ghost use Rattle.cdc_top.specs.Laws.{MeansTheSource, HitsGiveMemory};
-ghost use Rattle.cdc_top.specs.Source.{Source as GivenSource};
-ghost use Rattle.cdc_top.specs.Words.{source_of};
 
 use crate::check::{check_source, say_refused};
-use crate::limits::{INPUT_LIMIT, SCHEDULE_LIMIT};
-use crate::run::{run_source, say};
-use crate::schedule::read_schedule;
+use crate::run::{run_files, say};
 use crate::seq::seq_files;
-use crate::source::{Source, read_source};
-use crate::status::{INPUT_REFUSED, NO_COMMAND, OUT_OF_MEMORY, PROGRAM_REFUSED, READ_FAULT};
+use crate::status::{NO_COMMAND, OUT_OF_MEMORY, READ_FAULT};
 use cdc_base::{ReadRefusal, Sink, Store, read_all};
 use cdc_check::CheckRefusal;
 use cdc_compile::Refusal;
@@ -108,77 +102,6 @@ fn read_command(words: &[String]) -> Command<'_>
     run_words(words[0].as_str(), names)
 }
 
-// Reads the schedule and runs the source.
-fn run_schedule<S: Store, K: Sink>(
-    alloc: Global,
-    source: Source<'_>,
-    schedule: &str,
-    store: &mut S,
-    out: &mut K,
-) -> u8
-    ensures { Ended (λ files. IsTold (S.told store.old schedule.now) files.schedule) (λ files a. ScheduleAnswers (source_of source.entry) files a)
-        (Only (λ files a. ScheduleAnswers (source_of source.entry) files a))
-        (λ files. Rose (S.faults store.old schedule.now) (S.faults store.new schedule.now)) result
-        (K.taken out.old) (K.taken out.new) (S.faults store.old) (S.faults store.new) (K.faults out.old) (K.faults out.new) }
-{
-    match read_all(alloc, store, schedule, SCHEDULE_LIMIT) {
-        Err(ReadRefusal::Memory) => OUT_OF_MEMORY,
-        Err(ReadRefusal::Failed) => READ_FAULT,
-        Err(ReadRefusal::TooLong) => say(out, b"refused header line 1\n", INPUT_REFUSED),
-        Ok(bytes) => match read_schedule(&bytes) {
-            None => say(out, b"refused header line 1\n", INPUT_REFUSED),
-            Some(bound) => run_source(alloc, source, bound, out),
-        },
-    }
-}
-
-// Reads the input, and then goes on with the schedule.
-fn run_input<S: Store, K: Sink>(
-    alloc: Global,
-    source: Source<'_>,
-    input: &str,
-    schedule: &str,
-    store: &mut S,
-    out: &mut K,
-) -> u8
-    ensures { Ended (λ files. IsTold (S.told store.old input.now) files.input × IsTold (S.told store.old schedule.now) files.schedule) (λ files a. InputAnswers (source_of source.entry) files a)
-        (Only (λ files a. InputAnswers (source_of source.entry) files a))
-        (λ files. InputFailed input.now schedule.now files (S.faults store.old) (S.faults store.new)) result
-        (K.taken out.old) (K.taken out.new) (S.faults store.old) (S.faults store.new) (K.faults out.old) (K.faults out.new) }
-{
-    match read_all(alloc, store, input, INPUT_LIMIT) {
-        Err(ReadRefusal::Memory) => OUT_OF_MEMORY,
-        Err(ReadRefusal::Failed) => READ_FAULT,
-        Err(ReadRefusal::TooLong) => say(out, b"refused input at 1:1\n", INPUT_REFUSED),
-        Ok(bytes) => {
-            if !bytes.is_empty() {
-                return say(out, b"refused input at 1:1\n", INPUT_REFUSED);
-            }
-            run_schedule(alloc, source, schedule, store, out)
-        }
-    }
-}
-
-// Reads the program, and then goes on with the input.
-fn run_files<S: Store, K: Sink>(alloc: Global, names: Names<'_>, store: &mut S, out: &mut K) -> u8
-    ensures { ToolEnded (Run names.entry.program.now names.entry.input.now names.entry.schedule.now) (S.told store.old) result
-        (K.taken out.old) (K.taken out.new) (S.faults store.old) (S.faults store.new) (K.faults out.old) (K.faults out.new) }
-{
-    match read_all(alloc, store, names.program, limit(Kind::Source)) {
-        Err(ReadRefusal::Memory) => OUT_OF_MEMORY,
-        Err(ReadRefusal::Failed) => READ_FAULT,
-        Err(ReadRefusal::TooLong) => say(
-            out,
-            b"refused NotAStatement at line 1\n",
-            PROGRAM_REFUSED,
-        ),
-        Ok(bytes) => match read_source(&bytes) {
-            None => say(out, b"refused NotAStatement at line 1\n", PROGRAM_REFUSED),
-            Some(source) => run_input(alloc, source, names.input, names.schedule, store, out),
-        },
-    }
-}
-
 // Reads the program and checks it.
 fn check_file<S: Store, K: Sink>(alloc: Global, program: &str, store: &mut S, out: &mut K) -> u8
     ensures { ToolEnded (Check program.now) (S.told store.old) result
@@ -200,7 +123,14 @@ fn carry_out<S: Store, K: Sink>(alloc: Global, words: &[String], store: &mut S, 
         (K.taken out.old) (K.taken out.new) (S.faults store.old) (S.faults store.new) (K.faults out.old) (K.faults out.new) }
 {
     match read_command(words) {
-        Command::Run(names) => run_files(alloc, names, store, out),
+        Command::Run(names) => run_files(
+            alloc,
+            names.program,
+            names.input,
+            names.schedule,
+            store,
+            out,
+        ),
         Command::Check(program) => check_file(alloc, program, store, out),
         Command::Seq(program, input) => seq_files(alloc, program, input, store, out),
         Command::Usage => say(out, USAGE, NO_COMMAND),

@@ -1,26 +1,35 @@
-use Rattle.std.proofs.Common.{◌∙◌, ap, arith}
-use Rattle.cdc_top.specs.Machine.{play, State}
-use Rattle.cdc_top.specs.Replay.{fresh}
-use Rattle.cdc_top.specs.Report.{printed, outcome_of, status_of}
-use Rattle.cdc_top.specs.Words.{source_of}
-use Rattle.cdc_top.proofs.Answered.{IsPrepared, prepared, prepared_runs, prepared_run, said_run, said_part}
+use Rattle.std.proofs.Common.{◌≡◌, ◌≢◌, refl, subst, sym, inl, inr, rules}
+use Rattle.std.specs.Prelude.{List, ℕ}
+use Rattle.cdc_compile.specs.declared.refusal.Refusal.TheVariants.{Memory}
+use Rattle.cdc_compile.specs.Texts.{refusal_text}
+use Rattle.cdc_prog.specs.Translation.{program_of}
+use Rattle.cdc_top.specs.Answer.{Files, IsRefusedWith, compiled_code}
+use Rattle.cdc_top.specs.Report.{answer}
+use Rattle.cdc_top.proofs.Ends.{ended_memory, ended_said, ended_behind, unread, unread_told}
+use Rattle.cdc_top.specs.declared.status.TheConstants.{PROGRAM_REFUSED}
 use Rattle.cdc_top.proofs.run.run_source.Goals as goal
 
-pub play_out-requires : goal.play_out-requires
-play_out-requires g c =
-    let is : IsPrepared (source_of c.args.source) c.code-code.result c.in-Ok-new.machine =
-    prepared _ c.in-Ok.objects.items c.deref.result.now _ _ _ c.in-Ok.ensures.names c.deref.ensures.value c.code-code.ensures c.in-Ok-new.ensures (omega (arith, c.len.ensures, c.in-Ok.objects.ok.0)) in
-    prepared_runs _ _ _ is
+abbrev with_files : List ℕ → List ℕ → List ℕ → Files
+with_files program input schedule = record { program = program; input = input; schedule = schedule }
 
-pub returns-in-Ok-play_out : goal.returns-in-Ok-play_out
-returns-in-Ok-play_out g c =
-    let is : IsPrepared (source_of c.args.source) c.code-code.result c.in-Ok-new.machine =
-    prepared _ c.in-Ok.objects.items c.deref.result.now _ _ _ c.in-Ok.ensures.names c.deref.ensures.value c.code-code.ensures c.in-Ok-new.ensures (omega (arith, c.len.ensures, c.in-Ok.objects.ok.0)) in
-    said_run _ c.args.bound _ (play c.code-code.result c.args.bound (fresh c.in-Ok-new.machine)) _ _ _ _ (prepared_run _ _ _ c.args.bound is)
-    (c.status.ensures.value ∙ ap status_of (c.outcome.ensures ∙ ap outcome_of c.in-Ok-play_out.ensures.machine)) c.status.ensures.finished c.in-Ok-play_out.ensures.wrote.whole
+pub returns-in-Err-Memory : goal.returns-in-Err-Memory
+returns-in-Err-Memory g c =
+    let input = g.S.Store.told c.args.store.now c.args.input.now in
+    let schedule = g.S.Store.told c.args.store.now c.args.schedule.now in
+    ended_memory (with_files c.args.source.now (unread input) (unread schedule)) (refl, unread_told input, unread_told schedule) _ _ _ _
 
-pub returns : goal.returns
-returns g c =
-    let is : IsPrepared (source_of c.args.source) c.code-code.result c.in-Ok-new.machine =
-    prepared _ c.in-Ok.objects.items c.deref.result.now _ _ _ c.in-Ok.ensures.names c.deref.ensures.value c.code-code.ensures c.in-Ok-new.ensures (omega (arith, c.len.ensures, c.in-Ok.objects.ok.0)) in
-    said_part _ _ _ _ _ _ (ap (λ (s : State). printed s c.args.bound) (prepared_run _ _ _ c.args.bound is)) c.in-Err.ensures.wrote.part
+pub returns-in-Err : goal.returns-in-Err
+returns-in-Err g c =
+    let input = g.S.Store.told c.args.store.now c.args.input.now in
+    let schedule = g.S.Store.told c.args.store.now c.args.schedule.now in
+    let refusal = c.in-Err.refusal in
+    let other : refusal ≢ Memory = search rules in
+    let is : IsRefusedWith c.args.source.now (answer (refusal_text refusal) PROGRAM_REFUSED) = (refusal, other, c.in-Err.ensures.answer, refl) in
+    ended_said (with_files c.args.source.now (unread input) (unread schedule)) (answer (refusal_text refusal) PROGRAM_REFUSED) _ _ _ _ _ _ _ (refl, unread_told input, unread_told schedule) (inl is) (inl is) (λ name. refl) c.say_refused.ensures
+
+pub returns-in-Ok : goal.returns-in-Ok
+returns-in-Ok g c =
+    let p = program_of c.in-Ok.compiled.program in
+    let answer = c.in-Ok.ensures.answer in
+    ended_behind (λ (f : Files). record { program = c.args.source.now; input = f.input; schedule = f.schedule }) _ _ _ _ _ _ _ _
+    (λ f told. (refl, told.0, told.1)) (λ f a is. inr (p, answer, is)) (λ f a is. inr (p, answer, is)) (λ f failed. (p, answer, failed)) (λ name. refl) c.run_compiled.ensures

@@ -3,8 +3,8 @@ use Rattle.cdc_prog.specs.declared.plain.Plain.{Plain}
 use Rattle.cdc_prog.specs.Answers.{IsRun}
 use Rattle.cdc_prog.specs.Meaning.{meaning}
 use Rattle.cdc_prog.specs.Translation.{program_of}
-use Rattle.cdc_top.specs.declared.machine.Outcome.TheVariants.{Done, Fault}
-use Rattle.cdc_top.specs.Report.{outcome_of_end}
+use Rattle.cdc_epoch.specs.declared.outcome.Outcome.TheVariants.{Done, Fault}
+use Rattle.cdc_epoch.specs.Stands.{outcome_of_end}
 use Rattle.cdc_top.proofs.Seqs.{played_out, played_part}
 use Rattle.cdc_top.proofs.seq.play.Goals as goal
 

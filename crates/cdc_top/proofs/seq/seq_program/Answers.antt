@@ -18,7 +18,7 @@ pub returns-in-Err-TooLong : goal.returns-in-Err-TooLong
 returns-in-Err-TooLong g c =
     let told = g.S.Store.told c.args.store.now c.args.input.now in
     let long = too_long_long INPUT_LIMIT told (c.in-Err-TooLong.ensures.long (ap Err c.in-Err-TooLong.field-0-is)) in
-    ended_said (with_input (too_long INPUT_LIMIT told)) input_too_long _ _ _ _ _ _ _ (too_long_told INPUT_LIMIT told) (inl (long, refl)) (inl (long, refl)) (c.in-Err-TooLong.ensures.cause.kept (λ e. cc (e, c.in-Err-TooLong.field-0-is))) c.say.ensures
+    ended_said (with_input (too_long INPUT_LIMIT told)) input_too_long _ _ _ _ _ _ _ (too_long_told INPUT_LIMIT told) (inl (long, refl)) (inl (long, refl)) (c.in-Err-TooLong.ensures.cause.kept (λ e. cc (e, c.in-Err-TooLong.field-0-is))) c.say_long_input.ensures
 
 pub returns-in-Ok : goal.returns-in-Ok
 returns-in-Ok g c =

@@ -1,0 +1,58 @@
+-- The code of an accepted source.
+use Rattle.std.proofs.Common.{◌≡◌, ℕ, ◌+◌, ◌<◌, List, [], ◌∷◌, length, refl, sym, subst, arith}
+use Rattle.std.specs.Prelude.{Ok}
+use Rattle.std.specs.List.{All}
+use Rattle.std.proofs.lemmas.List.Elements.{All-nil, All-cons, All-head, All-tail}
+use Rattle.cdc_tree.specs.Units.{PUnit}
+use Rattle.cdc_nest.specs.Units.{mains}
+use Rattle.cdc_prog.specs.Plain as plain
+use Rattle.cdc_prog.specs.Resolved.{IsResolved, IsSerial}
+use Rattle.cdc_prog.specs.Numbered.{calls_in, units_numbered}
+use Rattle.cdc_prog.proofs.Numbered.{serial_numbered}
+use Rattle.cdc_names.specs.Scopes.{PScope, scope_of}
+use Rattle.cdc_check.specs.Check.{checked}
+use Rattle.cdc_check.specs.Threads.{each, next}
+use Rattle.cdc_check.specs.Units.{Whole, unit_in, units_from, nothing_yet}
+use Rattle.cdc_check.proofs.Accepted.{accepted_is_resolved, accepted_is_serial}
+use Rattle.cdc_code.specs.Template.{HasCallNumbers, code_of}
+use Rattle.cdc_compile.specs.Source.{HasBuiltUnits, IsProgramOf}
+use Rattle.cdc_compile.specs.Compiled.{ordinary_marks, IsSoundCodeOf}
+use Rattle.cdc_compile.specs.Laws.{IsAccepted, AcceptedIsSound}
+use Rattle.cdc_compile.proofs.Nested.{are_built}
+use Rattle.cdc_compile.proofs.RoomLaws.{Passed, passed, has_room, numbers}
+use Rattle.cdc_compile.proofs.Coded.{emitted_sound}
+
+-- units without dummies
+abbrev Bare : List plain.ProgramUnit → Type 0
+Bare = All (λ u. u.dummies ≡ [])
+
+units_bare : (number : ℕ) (us : List PUnit) (ss : List PScope) (k : Whole) → Bare (each (units_from number us ss) k).0
+units_bare number [] ss k = All-nil (λ (u : plain.ProgramUnit). u.dummies ≡ [])
+units_bare number (u ∷ us) [] k = All-nil (λ (u : plain.ProgramUnit). u.dummies ≡ [])
+units_bare number (u ∷ us) (s ∷ ss) k =
+    All-cons (λ (u : plain.ProgramUnit). u.dummies ≡ []) (unit_in number u s k).0 (each (units_from (next number) us ss) (unit_in number u s k).1).0 refl (units_bare (next number) us ss (unit_in number u s k).1)
+
+numbered_bare : (before : ℕ) (us : List plain.ProgramUnit) → Bare us → Bare (units_numbered before us)
+numbered_bare before [] h = h
+numbered_bare before (u ∷ us) h =
+    All-cons (λ (u : plain.ProgramUnit). u.dummies ≡ []) _ (units_numbered (before + calls_in u.body) us) (All-head (λ (u : plain.ProgramUnit). u.dummies ≡ []) u us h) (numbered_bare (before + calls_in u.body) us (All-tail (λ (u : plain.ProgramUnit). u.dummies ≡ []) u us h))
+
+some_units : (us : List PUnit) → mains us ≡ 1 → 0 < length us
+some_units [] h = absurd (omega (arith, h))
+some_units (u ∷ us) h = omega arith
+
+pub accepted_is_sound : AcceptedIsSound
+accepted_is_sound source p h =
+    let us : List PUnit = h.0 in
+    let has : HasBuiltUnits source us = h.1 in
+    let built = are_built source us has in
+    let resolved = accepted_is_resolved us p h.2 built (some_units us has.has_units.are_units.one_main) in
+    let serial = accepted_is_serial us p h.2 built in
+    let calls : HasCallNumbers p = subst HasCallNumbers (serial_numbered p serial) (numbers p) in
+    let done : Passed us p = passed us p h.2 in
+    record {
+      resolved = resolved;
+      serial = serial;
+      bare = subst Bare (sym done.units_are) (numbered_bare 0 _ (units_bare 0 us _ nothing_yet));
+      sound = emitted_sound p (ordinary_marks p.sites) (code_of p (ordinary_marks p.sites)) resolved serial calls (has_room source p h serial) refl;
+    }
