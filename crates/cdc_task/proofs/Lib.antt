@@ -5,3 +5,4 @@ pub mod Room
 pub mod Same
 pub mod GoesOn
 pub mod Sound
+pub mod Indexes

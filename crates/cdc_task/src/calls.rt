@@ -1,10 +1,10 @@
 //! Calls of units, and forks of iterations.
 
-ghost use Rattle.std.specs.Prelude.{◌≡◌, ◌<◌, ◌^◌, ℕ};
+ghost use Rattle.std.specs.Prelude.{◌≡◌, ◌<◌, ◌^◌, ℕ, IfOk};
 ghost use Rattle.cdc_prog.specs.Input.{Input};
-ghost use Rattle.cdc_prog.specs.Value.{few};
+ghost use Rattle.cdc_prog.specs.Value.{few, trips};
 ghost use Rattle.cdc_code.specs.declared.instr.Instr.TheVariants.{Arg, Call, Return, Fork};
-ghost use Rattle.cdc_task.specs.Steps.{FitsIn, EndsOn, Fits, Ends, FitsAt, EndsAt, does};
+ghost use Rattle.cdc_task.specs.Steps.{FitsIn, EndsOn, Fits, Ends, FitsAt, EndsAt, HasIndexes, counted, does};
 
 use crate::end::StepEnd;
 use crate::loops::moved;
@@ -20,6 +20,14 @@ fn few(count: u128) -> Result<u32, FaultKind>
         return Err(FaultKind::TripTooLarge);
     }
     Ok(count as u32)
+}
+
+// The number of iterations of a DOALL, whose indexes are all values.
+fn iterations(from: i64, to: i64, by: i64) -> Result<u32, FaultKind>
+    ensures count { result ≡ counted (trips from to by) }
+    ensures indexes { IfOk result (λ count. HasIndexes count from by) }
+{
+    turns(from, to, by).and_then(few)
 }
 
 impl Task {
@@ -67,7 +75,7 @@ impl Task {
         let Some((from, to, by)) = self.pop_controls() else {
             unreachable!();
         };
-        match turns(from, to, by).and_then(few) {
+        match iterations(from, to, by) {
             Ok(count) => {
                 self.fork(after);
                 StepEnd::Forked {
