@@ -1,12 +1,12 @@
 -- The indexes of a loop are values.
-use Rattle.std.proofs.Common.{◌≡◌, ℕ, zero, suc, ◌+◌, ◌-◌, ◌*◌, ◌/◌, ◌^◌, ◌<◌, ◌≤◌, ℤ, pos, negsuc, ◌+ℤ◌, ◌-ℤ◌, ◌*ℤ◌, neg_ℤ, ◌≤ℤ◌, ◌<ℤ◌, FitsSigned, Bool, true, false, if◌then◌else◌, Ok, Err, refl, sym, ap, ◌∙◌, subst, arith, rules, tests}
-use Rattle.std.specs.Prelude.{int_div, IsTrue, IfOk, Result, nat_lt}
+use Rattle.std.proofs.Common.{◌≡◌, ℕ, zero, suc, ◌+◌, ◌*◌, ◌/◌, ◌^◌, ◌<◌, ◌≤◌, ℤ, pos, negsuc, ◌+ℤ◌, ◌-ℤ◌, ◌*ℤ◌, neg_ℤ, ◌≤ℤ◌, ◌<ℤ◌, FitsSigned, Bool, true, false, if◌then◌else◌, Ok, Err, refl, sym, ◌∙◌, subst, arith, rules, tests}
+use Rattle.std.specs.Prelude.{int_div, IsTrue, IfOk, nat_lt}
 use mir.Syntax.{w64}
 use Rattle.std.proofs.Math.Nat.{div-mul-le_self, mul-le-mul_right, add-mul}
 use Rattle.std.proofs.Math.IntN.{pos-*ℤ-pos, pos-*ℤ-negsuc}
 use Rattle.std.proofs.lemmas.Int.{ints}
+use Rattle.std.proofs.lemmas.Bool.{ltb-true}
 use Rattle.cdc_num.specs.Exact.{at_least_zero}
-use Rattle.cdc_prog.specs.declared.program.FaultKind.{FaultKind}
 use Rattle.cdc_prog.specs.declared.program.FaultKind.TheVariants.{TripTooLarge}
 use Rattle.cdc_prog.specs.Value.{Got, is_value, trips, few}
 use Rattle.cdc_task.specs.Steps.{HasIndexes, counted}
@@ -64,3 +64,8 @@ counted_indexes m1 m2 m3 (Ok count) f g e = go (trips m1 m2 m3) refl e
     go : (t : Got ℕ) → trips m1 m2 m3 ≡ t → Ok count ≡ counted t → HasIndexes count m1 m3
     go (Ok n) q e = λ j lt. indexes m1 m2 m3 n f g q j (subst (λ m. j < m) (few_is n count (sym e)) lt)
     go (Err kind) q e = cc
+
+-- a value fits 64 bits
+pub value_fits : (z : ℤ) → IsTrue (is_value z) → FitsSigned w64 z
+value_fits (pos n) h = let lt : n < 2 ^ 63 = ltb-true n (2 ^ 63) h in omega (arith, ints)
+value_fits (negsuc n) h = let lt : n < 2 ^ 63 = ltb-true n (2 ^ 63) h in omega (arith, ints)

@@ -6,3 +6,15 @@ pub mod Same
 pub mod GoesOn
 pub mod Sound
 pub mod Indexes
+pub mod Unpathed
+pub mod Remaining
+pub mod Ends
+pub mod Output
+pub mod Moves
+pub mod Runs
+pub mod Turns
+pub mod Cells
+pub mod Forks
+pub mod Serial
+pub mod Answers
+pub mod Starts

@@ -2,3 +2,7 @@ pub mod Held
 pub mod Parts
 pub mod Steps
 pub mod Laws
+pub mod Course
+pub mod Running
+pub mod Memory
+pub mod Answers

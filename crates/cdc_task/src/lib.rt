@@ -11,13 +11,16 @@ mod operators;
 mod parts;
 mod place;
 mod port;
+mod run;
 mod step;
 mod streams;
 mod task;
 mod values;
+mod words;
 
-pub use cdc_prog::{FaultKind, Mark, Piece};
+pub use cdc_prog::{FaultKind, Mark, Piece, Plain};
 pub use end::StepEnd;
 pub use place::Place;
 pub use port::Port;
+pub use run::run_alone;
 pub use task::Task;
