@@ -32,7 +32,7 @@ pub record GoesWith (Keeps : Process → Type 0) : Type 0 where
 
 module _ (code : Code) (marks : List Mark) (Fits : Frame → Type 0) (Keeps : Process → Type 0) (goes : GoesWith Keeps) where
   -- what the code still does from a frame on a store: a process to which the one before leads, in fewer instructions
-  pub record Still (budget : ℕ) (p : Process) (s : Store) (pieces : List Piece) (g : Frame) (t : Store) : Type 0 where
+  pub record StillWith (budget : ℕ) (p : Process) (s : Store) (pieces : List Piece) (g : Frame) (t : Store) : Type 0 where
     pub rest : ℕ
     pub process : Process
     pub does : Does code marks Fits rest process g
@@ -41,25 +41,25 @@ module _ (code : Code) (marks : List Mark) (Fits : Frame → Type 0) (Keeps : Pr
     pub kept : Keeps p → Keeps process
 
   -- what the act of the frame says of the process
-  abbrev pub Stepped : (budget : ℕ) → Process → Store → Act Frame → Type 0
-  Stepped b p s (Goes g) = Still b p s [] g s
-  Stepped b p s (Reads path site mark word h) = Still b p s [] (h (s word)) s
-  Stepped b p s (Writes path site word v g) = Still b p s [] g (put s word v)
-  Stepped b p s (Prints piece g) = Still b p s (piece ∷ []) g s
-  Stepped b p s (Forks path number count from by e h) =
+  abbrev pub SteppedWith : (budget : ℕ) → Process → Store → Act Frame → Type 0
+  SteppedWith b p s (Goes g) = StillWith b p s [] g s
+  SteppedWith b p s (Reads path site mark word h) = StillWith b p s [] (h (s word)) s
+  SteppedWith b p s (Writes path site word v g) = StillWith b p s [] g (put s word v)
+  SteppedWith b p s (Prints piece g) = StillWith b p s (piece ∷ []) g s
+  SteppedWith b p s (Forks path number count from by e h) =
       (body : ℕ → Process) × (next : Process) × (m : ℕ) × IsAtEnd p s (Fork path number count from by body next) × ((k : ℕ) → Does code marks Fits 0 (body k) (e k)) × Does code marks Fits m next h × (m < b + 8 * ticks p s)
-  Stepped b p s Joins = IsAtEnd p s Join
-  Stepped b p s Halts = IsAtEnd p s Halt
-  Stepped b p s (Faults kind line) = IsAtEnd p s (Fail kind line)
-  Stepped b p s Stuck = ⊥
+  SteppedWith b p s Joins = IsAtEnd p s Join
+  SteppedWith b p s Halts = IsAtEnd p s Halt
+  SteppedWith b p s (Faults kind line) = IsAtEnd p s (Fail kind line)
+  SteppedWith b p s Stuck = ⊥
 
   -- the frame has room, and its act is the one that the process says
-  pub record Steps (budget : ℕ) (p : Process) (f : Frame) (s : Store) : Type 0 where
+  pub record StepsWith (budget : ℕ) (p : Process) (f : Frame) (s : Store) : Type 0 where
     pub fits : Fits f
-    pub stepped : Stepped budget p s (act code f)
+    pub stepped : SteppedWith budget p s (act code f)
 
   -- a tick more before the process
-  later : (b : ℕ) (next : Process) (s : Store) (pieces : List Piece) (g : Frame) (t : Store) → Still (b + 8) next s pieces g t → Still b (Tick next) s pieces g t
+  later : (b : ℕ) (next : Process) (s : Store) (pieces : List Piece) (g : Frame) (t : Store) → StillWith (b + 8) next s pieces g t → StillWith b (Tick next) s pieces g t
   later b next s pieces g t h = record {
     rest = h.rest;
     process = h.process;
@@ -69,7 +69,7 @@ module _ (code : Code) (marks : List Mark) (Fits : Frame → Type 0) (Keeps : Pr
     kept = λ k. h.kept (goes.tick next k);
   }
 
-  ticked : (b : ℕ) (next : Process) (s : Store) (a : Act Frame) → Stepped (b + 8) next s a → Stepped b (Tick next) s a
+  ticked : (b : ℕ) (next : Process) (s : Store) (a : Act Frame) → SteppedWith (b + 8) next s a → SteppedWith b (Tick next) s a
   ticked b next s (Goes g) h = later b next s [] g s h
   ticked b next s (Reads path site mark word h) k = later b next s [] (h (s word)) s k
   ticked b next s (Writes path site word v g) k = later b next s [] g (put s word v) k
@@ -84,41 +84,61 @@ module _ (code : Code) (marks : List Mark) (Fits : Frame → Type 0) (Keeps : Pr
   -- at a reach: a quiet instruction of it, or the act of the process
   reached : (b : ℕ) (p : Process) (f : Frame) (s : Store) (P : ℕ → Frame → Type 0) → Reach code marks Fits b f P
       → ((n : ℕ) (g : Frame) → Reach code marks Fits n g P → Does code marks Fits n p g)
-      → ((m : ℕ) → m < b → P m f → Stepped b p s (act code f))
-      → Steps b p f s
+      → ((m : ℕ) → m < b → P m f → SteppedWith b p s (act code f))
+      → StepsWith b p f s
   reached b p f s P r again own = go r.steps r.place r.comes r.within r.does
     where
-      go : (k : ℕ) (place : Frame) → Comes code marks Fits k f place → k + 1 + r.left ≤ b → P r.left place → Steps b p f s
+      go : (k : ℕ) (place : Frame) → Comes code marks Fits k f place → k + 1 + r.left ≤ b → P r.left place → StepsWith b p f s
       go k place (here _ ok) le h = record { fits = ok; stepped = own r.left (omega (arith, le)) h }
       go k place (after n _ g _ ok q rest) le h =
           let remaining : Reach code marks Fits (n + 1 + r.left) g P = record { steps = n; left = r.left; within = omega arith; place = place; comes = rest; does = h } in
-          let still : Still b p s [] g s = record { rest = n + 1 + r.left; process = p; does = again (n + 1 + r.left) g remaining; leads = record { said = refl; left = refl; ending = refl }; fewer = omega (arith, le); kept = λ k. k } in
-          record { fits = ok; stepped = subst (Stepped b p s) (sym q) still }
+          let still : StillWith b p s [] g s = record { rest = n + 1 + r.left; process = p; does = again (n + 1 + r.left) g remaining; leads = record { said = refl; left = refl; ending = refl }; fewer = omega (arith, le); kept = λ k. k } in
+          record { fits = ok; stepped = subst (SteppedWith b p s) (sym q) still }
 
-  pub one_step : (b : ℕ) (p : Process) (f : Frame) (s : Store) → Does code marks Fits b p f → Steps b p f s
-  one_step b (Tick next) f s d =
-      let h = one_step (b + 8) next f s d in
+  pub one_step_with : (b : ℕ) (p : Process) (f : Frame) (s : Store) → Does code marks Fits b p f → StepsWith b p f s
+  one_step_with b (Tick next) f s d =
+      let h = one_step_with (b + 8) next f s d in
       record { fits = h.fits; stepped = ticked b next s (act code f) h.stepped }
-  one_step b (Load path site word next) f s d =
+  one_step_with b (Load path site word next) f s d =
       reached b (Load path site word next) f s _ d (λ n g r. r) (λ m lt h.
-      let still : Still b (Load path site word next) s [] (h.0 (s word)) s = record { rest = m; process = next (s word); does = h.2 (s word); leads = record { said = refl; left = refl; ending = refl }; fewer = omega (arith, lt); kept = λ k. goes.load path site word next k (s word) } in
-      subst (Stepped b (Load path site word next) s) (sym h.1) still)
-  one_step b (Save path site word v next) f s d =
+      let still : StillWith b (Load path site word next) s [] (h.0 (s word)) s = record { rest = m; process = next (s word); does = h.2 (s word); leads = record { said = refl; left = refl; ending = refl }; fewer = omega (arith, lt); kept = λ k. goes.load path site word next k (s word) } in
+      subst (SteppedWith b (Load path site word next) s) (sym h.1) still)
+  one_step_with b (Save path site word v next) f s d =
       reached b (Save path site word v next) f s _ d (λ n g r. r) (λ m lt h.
-      let still : Still b (Save path site word v next) s [] h.0 (put s word v) = record { rest = m; process = next; does = h.2; leads = record { said = refl; left = refl; ending = refl }; fewer = omega (arith, lt); kept = λ k. goes.save path site word v next k } in
-      subst (Stepped b (Save path site word v next) s) (sym h.1) still)
-  one_step b (Say piece next) f s d =
+      let still : StillWith b (Save path site word v next) s [] h.0 (put s word v) = record { rest = m; process = next; does = h.2; leads = record { said = refl; left = refl; ending = refl }; fewer = omega (arith, lt); kept = λ k. goes.save path site word v next k } in
+      subst (SteppedWith b (Save path site word v next) s) (sym h.1) still)
+  one_step_with b (Say piece next) f s d =
       reached b (Say piece next) f s _ d (λ n g r. r) (λ m lt h.
-      let still : Still b (Say piece next) s (piece ∷ []) h.0 s = record { rest = m; process = next; does = h.2; leads = record { said = refl; left = refl; ending = refl }; fewer = omega (arith, lt); kept = goes.say piece next } in
-      subst (Stepped b (Say piece next) s) (sym h.1) still)
-  one_step b (Fork path number count from by body next) f s d =
+      let still : StillWith b (Say piece next) s (piece ∷ []) h.0 s = record { rest = m; process = next; does = h.2; leads = record { said = refl; left = refl; ending = refl }; fewer = omega (arith, lt); kept = goes.say piece next } in
+      subst (SteppedWith b (Say piece next) s) (sym h.1) still)
+  one_step_with b (Fork path number count from by body next) f s d =
       reached b (Fork path number count from by body next) f s _ d (λ n g r. r) (λ m lt h.
       let over : IsAtEnd (Fork path number count from by body next) s (Fork path number count from by body next) = record { said = refl; left = refl; ending = refl } in
-      subst (Stepped b (Fork path number count from by body next) s) (sym h.2) (body, next, m, over, h.3, h.4, omega (arith, lt)))
-  one_step b Join f s d =
-      reached b Join f s _ d (λ n g r. r) (λ m lt h. let over : IsAtEnd Join s Join = record { said = refl; left = refl; ending = refl } in subst (Stepped b Join s) (sym h) over)
-  one_step b Halt f s d =
-      reached b Halt f s _ d (λ n g r. r) (λ m lt h. let over : IsAtEnd Halt s Halt = record { said = refl; left = refl; ending = refl } in subst (Stepped b Halt s) (sym h) over)
-  one_step b (Fail kind line) f s d =
+      subst (SteppedWith b (Fork path number count from by body next) s) (sym h.2) (body, next, m, over, h.3, h.4, omega (arith, lt)))
+  one_step_with b Join f s d =
+      reached b Join f s _ d (λ n g r. r) (λ m lt h. let over : IsAtEnd Join s Join = record { said = refl; left = refl; ending = refl } in subst (SteppedWith b Join s) (sym h) over)
+  one_step_with b Halt f s d =
+      reached b Halt f s _ d (λ n g r. r) (λ m lt h. let over : IsAtEnd Halt s Halt = record { said = refl; left = refl; ending = refl } in subst (SteppedWith b Halt s) (sym h) over)
+  one_step_with b (Fail kind line) f s d =
       reached b (Fail kind line) f s _ d (λ n g r. r) (λ m lt h.
-      let over : IsAtEnd (Fail kind line) s (Fail kind line) = record { said = refl; left = refl; ending = refl } in subst (Stepped b (Fail kind line) s) (sym h) over)
+      let over : IsAtEnd (Fail kind line) s (Fail kind line) = record { said = refl; left = refl; ending = refl } in subst (SteppedWith b (Fail kind line) s) (sym h) over)
+
+-- the same, where nothing is kept
+abbrev pub Anything : Process → Type 0
+Anything q = Unit {0}
+
+abbrev pub anything_goes : GoesWith Anything
+anything_goes = record { load = λ path site word next k v. tt; save = λ path site word value next k. tt; say = λ piece next k. tt; tick = λ next k. tt }
+
+module _ (code : Code) (marks : List Mark) (Fits : Frame → Type 0) where
+  abbrev pub Still : (budget : ℕ) → Process → Store → List Piece → Frame → Store → Type 0
+  Still = StillWith code marks Fits Anything anything_goes
+
+  abbrev pub Stepped : (budget : ℕ) → Process → Store → Act Frame → Type 0
+  Stepped = SteppedWith code marks Fits Anything anything_goes
+
+  abbrev pub Steps : (budget : ℕ) → Process → Frame → Store → Type 0
+  Steps = StepsWith code marks Fits Anything anything_goes
+
+  pub one_step : (b : ℕ) (p : Process) (f : Frame) (s : Store) → Does code marks Fits b p f → Steps b p f s
+  one_step = one_step_with code marks Fits Anything anything_goes

@@ -1,6 +1,6 @@
 -- What the code prints is there: the texts that its instructions name.
-use Rattle.std.proofs.Common.{◌≡◌, ℕ, zero, suc, ◌<◌, ℤ, pos, negsuc, List, [], ◌∷◌, length, Option, Some, None, Ok, Err, refl, sym, subst}
-use Rattle.std.specs.Prelude.{slice_get, slice_index_or}
+use Rattle.std.proofs.Common.{◌≡◌, ℕ, zero, suc, ℤ, pos, negsuc, List, [], ◌∷◌, length, Option, Some, None, Ok, Err, refl, subst}
+use Rattle.std.specs.Prelude.{slice_get}
 use Rattle.std.specs.List.{All}
 use Rattle.std.proofs.lemmas.List.Elements.{All-head, All-tail}
 use Rattle.cdc_prog.specs.declared.expr.UnOp.{UnOp}
@@ -10,13 +10,12 @@ use Rattle.cdc_prog.specs.declared.expr.BinOp.TheVariants as bin
 use Rattle.cdc_prog.specs.Value.{Got, unary, binary, trips, few}
 use Rattle.cdc_prog.specs.Data.{Binding, dims_of, element}
 use Rattle.cdc_prog.specs.Input as input
-use Rattle.cdc_prog.specs.Pieces.{IsThere}
 use Rattle.cdc_prog.specs.Expressions.{Surroundings}
 use Rattle.cdc_code.specs.declared.instr.Instr.{Instr}
 use Rattle.cdc_code.specs.declared.instr.Instr.TheVariants.{Const, Local, Setlocal, Index, Load, Loade, Store, Storee, Neg, Abs, Not, Add, Sub, Mul, Div, Mod, Min, Max, Eq, Ne, Lt, Le, Gt, Ge, And, Or, Jump, Jumpz, Doinit, Dotest, Doadd, Take, RecordEnd, Put, Gap, Text, Line, Arg, Call, Return, Fork, Join, Halt}
 use Rattle.cdc_code.specs.declared.instr.Step.{Step}
 use Rattle.cdc_code.specs.declared.code.Code.{Code}
-use Rattle.cdc_code.specs.Act.{Act, Prints, or_fault}
+use Rattle.cdc_code.specs.Act.{Act, or_fault}
 use Rattle.cdc_code.specs.Frames.{Loop, Caller, Kept, Frame}
 use Rattle.cdc_code.specs.Rows.{pop, pops, as_number, test, step_of, returned, unary_act, binary_act, binding_at, act_at, act_of, act}
 use Rattle.cdc_code.specs.Room.{IsNamed, NamesWithin, SaysThere}

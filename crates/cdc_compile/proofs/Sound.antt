@@ -1,23 +1,20 @@
 -- The code of an accepted source.
 use Rattle.std.proofs.Common.{◌≡◌, ℕ, ◌+◌, ◌<◌, List, [], ◌∷◌, length, refl, sym, subst, arith}
-use Rattle.std.specs.Prelude.{Ok}
 use Rattle.std.specs.List.{All}
 use Rattle.std.proofs.lemmas.List.Elements.{All-nil, All-cons, All-head, All-tail}
 use Rattle.cdc_tree.specs.Units.{PUnit}
 use Rattle.cdc_nest.specs.Units.{mains}
 use Rattle.cdc_prog.specs.Plain as plain
-use Rattle.cdc_prog.specs.Resolved.{IsResolved, IsSerial}
 use Rattle.cdc_prog.specs.Numbered.{calls_in, units_numbered}
 use Rattle.cdc_prog.proofs.Numbered.{serial_numbered}
-use Rattle.cdc_names.specs.Scopes.{PScope, scope_of}
-use Rattle.cdc_check.specs.Check.{checked}
+use Rattle.cdc_names.specs.Scopes.{PScope}
 use Rattle.cdc_check.specs.Threads.{each, next}
 use Rattle.cdc_check.specs.Units.{Whole, unit_in, units_from, nothing_yet}
 use Rattle.cdc_check.proofs.Accepted.{accepted_is_resolved, accepted_is_serial}
 use Rattle.cdc_code.specs.Template.{HasCallNumbers, code_of}
-use Rattle.cdc_compile.specs.Source.{HasBuiltUnits, IsProgramOf}
-use Rattle.cdc_compile.specs.Compiled.{ordinary_marks, IsSoundCodeOf}
-use Rattle.cdc_compile.specs.Laws.{IsAccepted, AcceptedIsSound}
+use Rattle.cdc_compile.specs.Source.{HasBuiltUnits}
+use Rattle.cdc_compile.specs.Compiled.{ordinary_marks}
+use Rattle.cdc_compile.specs.Laws.{AcceptedIsSound}
 use Rattle.cdc_compile.proofs.Nested.{are_built}
 use Rattle.cdc_compile.proofs.RoomLaws.{Passed, passed, has_room, numbers}
 use Rattle.cdc_compile.proofs.Coded.{emitted_sound}

@@ -1,5 +1,5 @@
 -- Memory before the first event.
-use Rattle.std.proofs.Common.{◌≡◌, ℕ, zero, suc, ◌+◌, ◌<◌, ℤ, pos, List, [], ◌∷◌, length, refl, arith}
+use Rattle.std.proofs.Common.{◌≡◌, ℕ, zero, suc, ◌<◌, ℤ, pos, List, [], ◌∷◌, length, refl, arith}
 use Rattle.std.proofs.Math.Path.{fun_ext}
 use Rattle.cdc_prog.specs.Data.{zeros}
 use Rattle.cdc_prog.specs.Held.{store_of}

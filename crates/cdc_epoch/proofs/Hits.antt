@@ -1,5 +1,5 @@
 -- Without caches no event is counted as a hit.
-use Rattle.std.proofs.Common.{◌≡◌, ℕ, ◌+◌, Bool, true, false, refl, sym, ap, subst, arith}
+use Rattle.std.proofs.Common.{◌≡◌, Bool, true, false, refl, arith}
 use Rattle.std.specs.Prelude.{if◌then◌else◌}
 use Rattle.cdc_base.specs.Numbers.{one_more}
 use Rattle.cdc_code.specs.declared.code.Code.{Code}

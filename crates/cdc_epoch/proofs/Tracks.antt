@@ -1,13 +1,10 @@
 -- The machine does what the process of its program does.
 use Rattle.std.proofs.Common.{◌≡◌, ℕ, zero, suc, ℤ, List, [], ◌∷◌, ◌++◌, Bool, true, false, Option, Some, None, refl, sym, ap, ◌∙◌, subst, append_assoc}
-use Rattle.std.specs.Prelude.{is_some, if◌then◌else◌, ◌<◌}
+use Rattle.std.specs.Prelude.{is_some, if◌then◌else◌}
 use Rattle.cdc_base.specs.Numbers.{one_more}
 use Rattle.std.proofs.lemmas.List.{append-nil}
 use Rattle.cdc_prog.specs.declared.piece.Piece.{Piece}
 use Rattle.cdc_prog.specs.declared.program.Mark.{Mark}
-use Rattle.cdc_prog.specs.declared.program.Marks.{Marks}
-use Rattle.cdc_prog.specs.declared.program.FaultKind.{FaultKind}
-use Rattle.cdc_prog.specs.Plain.{Program}
 use Rattle.cdc_prog.specs.Data.{Store, put, zeros}
 use Rattle.cdc_prog.specs.Input.{Input}
 use Rattle.cdc_prog.specs.Process.{Process, Load, Save, Say, Tick, Fork, Join, Halt, Fail}
@@ -15,7 +12,6 @@ use Rattle.cdc_prog.specs.Bodies.{ComesOnlyTo}
 use Rattle.cdc_prog.specs.Alone.{left, said, ending}
 use Rattle.cdc_prog.specs.InOrder.{End, Done, Faulted, output, ends}
 use Rattle.cdc_prog.specs.Units.{process_of}
-use Rattle.cdc_prog.specs.Resolved.{IsResolved}
 use Rattle.cdc_prog.specs.Meaning.{bytes_of_piece, bytes_of, meaning}
 use Rattle.cdc_prog.proofs.Bodies.{program_fine, one_task}
 use Rattle.cdc_prog.proofs.InOrder.{ends_rest}
@@ -33,7 +29,7 @@ use Rattle.cdc_task.specs.Steps.{GoesOn}
 use Rattle.cdc_task.specs.Laws.{HasArrays}
 use Rattle.cdc_task.proofs.Sound.{code_goes_on}
 use Rattle.cdc_epoch.specs.Machine.{State, acted, counted, event, play, start, run}
-use Rattle.cdc_epoch.specs.Laws.{IsFront, IsMeant, HasNoDoall, MeansTheProgram}
+use Rattle.cdc_epoch.specs.Laws.{IsMeant, HasNoDoall, MeansTheProgram}
 use Rattle.cdc_epoch.specs.Ready.{NoFork, IsReady}
 
 -- a process that forks nothing
@@ -84,7 +80,7 @@ module _ (code : Code) (marks : List Mark) (main : Process) where
   -- a task goes on, where what it prints is added
   still : (m : State) (b : ℕ) (q : Process) (pieces : List Piece) (g : Frame) (t : Store) (after : State) → m.ended ≡ None → Keeps q
       → m.printed ++ said q m.memory ≡ said main zeros → ending q m.memory ≡ ending main zeros → left q m.memory ≡ left main zeros
-      → step.Still code marks (GoesOn code) Keeps goes_on b q m.memory pieces g t
+      → step.StillWith code marks (GoesOn code) Keeps goes_on b q m.memory pieces g t
       → after.frame ≡ g → after.memory ≡ t → after.printed ≡ m.printed ++ pieces → after.ended ≡ m.ended → Holds after
   still m b q pieces g t after none keeps said_so ending_so left_so h frame memory printed ended =
       goes after (ended ∙ none) (record {
@@ -112,7 +108,7 @@ module _ (code : Code) (marks : List Mark) (main : Process) where
 
   acts : (m : State) (a : Act Frame) (b : ℕ) (q : Process) → m.ended ≡ None → Keeps q
       → m.printed ++ said q m.memory ≡ said main zeros → ending q m.memory ≡ ending main zeros → left q m.memory ≡ left main zeros
-      → step.Stepped code marks (GoesOn code) Keeps goes_on b q m.memory a → Holds (acted a m)
+      → step.SteppedWith code marks (GoesOn code) Keeps goes_on b q m.memory a → Holds (acted a m)
   acts m (Goes g) b q none keeps said_so ending_so left_so h = still m b q [] g m.memory (acted (Goes g) m) none keeps said_so ending_so left_so h refl refl (sym (append-nil m.printed)) refl
   acts m (Reads path site mark word next) b q none keeps said_so ending_so left_so h =
       still m b q [] (next (m.memory word)) m.memory (acted (Reads path site mark word next) m) none keeps said_so ending_so left_so h refl refl (sym (append-nil m.printed)) refl
@@ -134,7 +130,7 @@ module _ (code : Code) (marks : List Mark) (main : Process) where
     where
       by_taken : (taken : Bool) → m.taken ≡ taken → Holds (event code m)
       by_taken true is =
-          let steps = step.one_step code marks (GoesOn code) Keeps goes_on tracks.budget tracks.process m.frame m.memory tracks.does in
+          let steps = step.one_step_with code marks (GoesOn code) Keeps goes_on tracks.budget tracks.process m.frame m.memory tracks.does in
           let begun : State = record m { events = one_more m.events } in
           let e : event code m ≡ acted (act code m.frame) (counted begun) = ap (λ t. if t then acted (act code m.frame) (counted begun) else record begun { taken = true }) is in
           subst Holds (sym e) (acts (counted begun) (act code m.frame) tracks.budget tracks.process none tracks.keeps tracks.said tracks.ending tracks.left steps.stepped)
@@ -206,7 +202,7 @@ module _ (code : Code) (sound : IsSound code) (arrays : HasArrays code) (only : 
             (ap (bytes_of code.texts) over.said ∙ meant, over.end);
       }
 
-  forks_nothing : (b : ℕ) (q : Process) (s : Store) (a : Act Frame) → Keeps q → step.Stepped code marks (GoesOn code) Keeps goes_on b q s a → NoFork a
+  forks_nothing : (b : ℕ) (q : Process) (s : Store) (a : Act Frame) → Keeps q → step.SteppedWith code marks (GoesOn code) Keeps goes_on b q s a → NoFork a
   forks_nothing b q s (Goes g) keeps h = tt
   forks_nothing b q s (Reads path site mark word next) keeps h = tt
   forks_nothing b q s (Writes path site word v g) keeps h = tt
@@ -221,7 +217,7 @@ module _ (code : Code) (sound : IsSound code) (arrays : HasArrays code) (only : 
   is_ready n none =
       let m = run code records n in
       let tracks = (holds n).running none in
-      let steps = step.one_step code marks (GoesOn code) Keeps goes_on tracks.budget tracks.process m.frame m.memory tracks.does in
+      let steps = step.one_step_with code marks (GoesOn code) Keeps goes_on tracks.budget tracks.process m.frame m.memory tracks.does in
       record {
         running = none;
         goes = λ taken. steps.fits;

@@ -1,5 +1,5 @@
 -- What a run owes the sequential program and the memory.
-use Rattle.std.specs.Prelude.{◌≡◌, ℕ, ◌+◌, ◌<◌, ℤ, List, ◌++◌, Option, Some, None, Bool, true}
+use Rattle.std.specs.Prelude.{◌≡◌, ℕ, ◌+◌, ◌<◌, ℤ, List, ◌++◌, Some, None}
 use Rattle.cdc_prog.specs.declared.program.Mark.{Mark}
 use Rattle.cdc_prog.specs.Plain.{Program}
 use Rattle.cdc_prog.specs.Input.{Input}

@@ -6,7 +6,7 @@ use Rattle.cdc_prog.specs.Data.{Store, put, zeros}
 use Rattle.cdc_prog.specs.Input.{Input}
 use Rattle.cdc_prog.specs.InOrder.{End, Done, Faulted}
 use Rattle.cdc_code.specs.declared.code.Code.{Code}
-use Rattle.cdc_code.specs.Act.{Act, Goes, Reads, Writes, Prints, Forks, Joins, Halts, Faults, Stuck}
+use Rattle.cdc_code.specs.Act.{Act, Goes, Reads, Writes, Prints, Joins, Halts, Faults}
 use Rattle.cdc_code.specs.Frames.{Frame}
 use Rattle.cdc_code.specs.Rows.{act, first_frame}
 use Rattle.cdc_fabric.specs.declared.counts.Access.{Access}

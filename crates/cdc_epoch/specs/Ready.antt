@@ -1,5 +1,5 @@
 -- When the machine can apply an event.
-use Rattle.std.specs.Prelude.{◌≡◌, ℕ, ℤ, List, length, None, true}
+use Rattle.std.specs.Prelude.{◌≡◌, length, None, true}
 use Rattle.cdc_code.specs.declared.code.Code.{Code}
 use Rattle.cdc_code.specs.Act.{Act, Forks}
 use Rattle.cdc_code.specs.Frames.{Frame}

@@ -36,11 +36,7 @@ impl Machine {
     /// # Errors
     ///
     /// Memory ran out.
-    pub fn prepare(
-        alloc: Global,
-        code: Code,
-        records: InputRecords,
-    ) -> Result<Machine, NoMemory>
+    pub fn prepare(alloc: Global, code: Code, records: InputRecords) -> Result<Machine, NoMemory>
         ensures code { IfOk result (λ machine. machine.code ≡ code) }
         ensures records { IfOk result (λ machine. machine.records ≡ records) }
         ensures stands { IfOk result (λ machine. StandsFor machine (start code records.records)) }

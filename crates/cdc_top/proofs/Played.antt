@@ -1,7 +1,6 @@
 -- What a run printed is written, and the lines on it.
-use Rattle.std.proofs.Common.{◌≡◌, ℕ, List, [], ◌∷◌, ◌++◌, sym, ◌∙◌, ap, ap₂, subst, Bool, if◌then◌else◌, append-nil}
+use Rattle.std.proofs.Common.{◌≡◌, ℕ, List, [], ◌∷◌, ◌++◌, ◌∙◌, ap, ap₂, subst, Bool, if◌then◌else◌}
 use Rattle.std.specs.Prelude.{Option, unwrap_or}
-use Rattle.cdc_base.specs.Causes.{Rose}
 use Rattle.cdc_base.specs.Gathered.{HandsOn}
 use Rattle.cdc_base.specs.Outside.{grown, GrewInPart}
 use Rattle.cdc_base.proofs.Grown.{grown-grown}
@@ -15,7 +14,7 @@ use Rattle.cdc_epoch.specs.declared.outcome.Outcome.TheVariants.{Stopped}
 use Rattle.cdc_epoch.specs.Machine.{run}
 use Rattle.cdc_epoch.specs.Stands.{counts_of}
 use Rattle.cdc_text.specs.Pieces.{GrewByFront}
-use Rattle.cdc_text.proofs.Pieces.{front_first, front_second, front_of_part}
+use Rattle.cdc_text.proofs.Pieces.{front_second, front_of_part}
 use Rattle.cdc_top.specs.Replay.{Ran, output_after}
 use Rattle.cdc_top.specs.Report.{line_end, report, outcome_of}
 use Rattle.cdc_top.proofs.Said.{closes}

@@ -1,5 +1,5 @@
 -- A run that prints as it goes, event by event.
-use Rattle.std.proofs.Common.{◌≡◌, ℕ, zero, suc, ◌+◌, ◌-◌, ◌<◌, ◌≤◌, List, [], ◌∷◌, ◌++◌, refl, sym, ◌∙◌, ap, ap₂, subst, arith, Bool, true, false, if◌then◌else◌, append_assoc, append-nil}
+use Rattle.std.proofs.Common.{◌≡◌, ℕ, zero, suc, ◌+◌, ◌-◌, ◌<◌, ◌≤◌, List, [], ◌∷◌, ◌++◌, refl, sym, ◌∙◌, ap, subst, arith, Bool, true, false, if◌then◌else◌, append_assoc, append-nil}
 use Rattle.std.specs.Prelude.{Option, Some, None, is_some}
 use Rattle.cdc_base.specs.Gathered.{waiting, HandsOn}
 use Rattle.cdc_base.specs.Outside.{grown, GrewInPart}
@@ -10,7 +10,7 @@ use Rattle.cdc_prog.specs.declared.piece.Piece.{Piece}
 use Rattle.cdc_prog.specs.Input.{Input}
 use Rattle.cdc_prog.specs.InOrder.{End}
 use Rattle.cdc_prog.specs.Lines.{opened, is_open}
-use Rattle.cdc_prog.specs.Meaning.{bytes_of_piece, bytes_of}
+use Rattle.cdc_prog.specs.Meaning.{bytes_of}
 use Rattle.cdc_prog.proofs.Opened.{opened-opened}
 use Rattle.cdc_text.specs.Pieces.{GrewByFront}
 use Rattle.cdc_text.proofs.Pieces.{front_first, front_second, front_of_part, grown_nothing}

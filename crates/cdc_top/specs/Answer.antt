@@ -21,8 +21,6 @@ use Rattle.cdc_top.specs.Report.{Answer, answer, joined, line, printed, outcome_
 use Rattle.cdc_top.specs.Schedule.{IsSchedule}
 use Rattle.cdc_top.specs.Sequential.{InputIs, IsCarriedOut, IsGoodInput}
 use Rattle.cdc_top.specs.Status.{IsFinished}
-use Rattle.cdc_prog.specs.Limits.{limit}
-use Rattle.cdc_prog.specs.declared.program.Kind.TheVariants as kind
 use Rattle.cdc_top.specs.declared.limits.TheConstants.{SCHEDULE_LIMIT}
 use Rattle.cdc_top.specs.declared.status.TheConstants.{NO_COMMAND, PROGRAM_REFUSED, INPUT_REFUSED, READ_FAULT, WRITE_FAULT, OUT_OF_MEMORY, DONE}
 

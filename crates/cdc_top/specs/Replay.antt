@@ -7,7 +7,7 @@ use Rattle.cdc_prog.specs.Input.{Input}
 use Rattle.cdc_prog.specs.Lines.{is_open}
 use Rattle.cdc_prog.specs.Meaning.{bytes_of}
 use Rattle.cdc_epoch.specs.declared.machine.Machine.{Machine}
-use Rattle.cdc_epoch.specs.Machine.{State, start, run}
+use Rattle.cdc_epoch.specs.Machine.{run}
 use Rattle.cdc_epoch.specs.Ready.{IsReady}
 use Rattle.cdc_epoch.specs.Stands.{StandsFor}
 

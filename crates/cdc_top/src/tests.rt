@@ -38,6 +38,23 @@ const GREAT: &str = "PROGRAM G\nM = 999999999999999999 + 999999999999999999\nPRI
 const GREAT_DONE: &str =
     "3999999999999999996\n= end done\n= boundaries 0\n= events 11 of 100\n= idle 0\n= p0 steps 10 reads 2 ordinary 0 marked 0 misses 2 evicted 0 invalidated 0\n";
 
+const OVER: &str =
+    "PROGRAM AR\nPRINT *, MOD(-7, 3), -7 / 2, 7 / (-2), -2 * 3\nK = -9223372036854775807 - 1\nPRINT *, K\nPRINT *, ABS(K)\nEND\n";
+
+const OVER_FAULT: &str =
+    "-1 -3 -3 -6\n-9223372036854775808\n= end fault overflow at line 5\n= boundaries 0\n= events 35 of 100\n= idle 0\n= p0 steps 34 reads 2 ordinary 0 marked 0 misses 2 evicted 0 invalidated 0\n";
+
+const TURNS: &str =
+    "PROGRAM BIG\nDO K = 9223372036854775806, 9223372036854775807\nPRINT *, K\nEND DO\nEND\n";
+
+const TURNS_FAULT: &str =
+    "9223372036854775806\n9223372036854775807\n= end fault overflow at line 2\n= boundaries 0\n= events 20 of 100\n= idle 0\n= p0 steps 19 reads 4 ordinary 0 marked 0 misses 4 evicted 0 invalidated 0\n";
+
+const READS: &str = "PROGRAM RD\nREAD *, I, J\nREAD *, K\nPRINT *, I, J, K\nREAD *, L\nEND\n";
+
+const READS_FAULT: &str =
+    "1 2 3\n= end fault input ended at line 5\n= boundaries 0\n= events 19 of 100\n= idle 0\n= p0 steps 18 reads 3 ordinary 0 marked 0 misses 3 evicted 0 invalidated 0\n";
+
 const USAGE: &str =
     "usage: cdcc run PROG INPUT SCHED\n       cdcc check PROG\n       cdcc marks PROG\n       cdcc code PROG\n       cdcc seq PROG INPUT\n       cdcc bench N\n";
 
@@ -85,23 +102,22 @@ fn files_are_answered(rt: HostRuntime) -> Result<(), Fail> {
         ([ONE, "", IN_LINE], 8, HALF),
         ([ZEROS, "", HEADER], 0, ZEROS_DONE),
         ([GREAT, "", HEADER], 0, GREAT_DONE),
-        (["", "1", ""], 3, PROGRAM_REFUSED),
+        ([OVER, "", HEADER], 1, OVER_FAULT),
+        ([TURNS, "", HEADER], 1, TURNS_FAULT),
+        ([READS, "1\n2 99\n3, 4\n", HEADER], 1, READS_FAULT),
+        (["", "x", ""], 3, "refused Nesting at line 1\n"),
         (
-            ["PROGRAM ONE\nN = 2 + 3\nPRINT *, N + 1\nEND", "", HEADER],
+            ["PROGRAM ONE\nX = 2 + 3\nPRINT *, N + 1\nEND\n", "x", ""],
             3,
-            PROGRAM_REFUSED,
-        ),
-        (
-            ["PROGRAM ONE\nX = 2 + 3\nPRINT *, N + 1\nEND\n", "", HEADER],
-            3,
-            PROGRAM_REFUSED,
+            "refused Undeclared at 2:1\n",
         ),
         (
             ["PROGRAM END\nN = 2 + 3\nPRINT *, N + 1\nEND\n", "", HEADER],
             3,
             PROGRAM_REFUSED,
         ),
-        ([ONE, "1", ""], 4, INPUT_REFUSED),
+        ([ONE, "x", ""], 4, INPUT_REFUSED),
+        ([ONE, "1", ""], 4, SCHEDULE_REFUSED),
         ([ONE, "", ""], 4, SCHEDULE_REFUSED),
         ([ONE, "", LONGER], 4, SCHEDULE_REFUSED),
     ] {

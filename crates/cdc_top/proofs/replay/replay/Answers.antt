@@ -1,5 +1,5 @@
-use Rattle.std.proofs.Common.{◌≡◌, ◌∙◌, ◌≤◌, ◌<◌, ◌++◌, List, ℕ, sym, subst, ap, arith, Ok, Err}
-use Rattle.std.specs.Prelude.{Option, None, Result, OnErr, is_some, true, false}
+use Rattle.std.proofs.Common.{◌≡◌, ◌∙◌, ◌++◌, List, ℕ, sym, subst, ap, arith, Ok, Err}
+use Rattle.std.specs.Prelude.{Result, OnErr, is_some, true, false}
 use Rattle.cdc_base.specs.Gathered.{waiting, HandsOn}
 use Rattle.cdc_base.specs.Outside.{GrewInPart}
 use Rattle.cdc_code.specs.declared.code.Code.{Code}
@@ -8,7 +8,6 @@ use Rattle.cdc_prog.specs.Meaning.{bytes_of}
 use Rattle.cdc_epoch.specs.Machine.{run}
 use Rattle.cdc_epoch.specs.Ready.{IsReady}
 use Rattle.cdc_epoch.specs.Stands.{pieces_of, Follows}
-use Rattle.cdc_top.specs.Replay.{Replaying}
 use Rattle.cdc_top.proofs.Replays.{replays_on, fails_there, ended_there, has_ended, is_running}
 use Rattle.cdc_top.proofs.replay.replay.Goals as goal
 

@@ -1,4 +1,4 @@
-use Rattle.std.proofs.Common.{[], ap, sym, subst, Err, inl, inr}
+use Rattle.std.proofs.Common.{ap, sym, subst, Err, inl, inr}
 use Rattle.std.specs.Prelude.{List, ℕ}
 use Rattle.cdc_check.specs.declared.refusal.CheckRefusal.TheVariants.{TooMany}
 use Rattle.cdc_compile.specs.declared.refusal.Refusal.TheVariants.{Check}

@@ -1,6 +1,4 @@
-use Rattle.std.proofs.Common.{◌≡◌, refl, subst, inl, inr, rules}
-use Rattle.std.specs.Prelude.{List, ℕ}
-use Rattle.cdc_input.specs.Records.{records_of}
+use Rattle.std.proofs.Common.{refl, subst, inl, inr, rules}
 use Rattle.cdc_prog.specs.Input.{Input}
 use Rattle.cdc_prog.specs.Translation.{program_of}
 use Rattle.cdc_base.specs.declared.place.Place.{Place}

@@ -1,8 +1,7 @@
-use Rattle.std.proofs.Common.{◌≡◌, ◌≤◌, ap, sym, subst, arith, length, refl, Err, inl, inr}
+use Rattle.std.proofs.Common.{◌≤◌, ap, sym, subst, arith, length, refl, Err, inl, inr}
 use Rattle.std.specs.Prelude.{List, ℕ}
 use Rattle.cdc_prog.specs.Translation.{program_of}
-use Rattle.cdc_top.specs.Answer.{IsHeader, IsTold, ScheduleAnswers, schedule_refused, ran}
-use Rattle.cdc_top.specs.Report.{Answer}
+use Rattle.cdc_top.specs.Answer.{IsHeader, IsTold, ScheduleAnswers, schedule_refused}
 use Rattle.cdc_top.proofs.Ends.{ended_memory, ended_read, ended_said, ended_answers, with_schedule, unread, unread_told, too_long, too_long_told, too_long_long, whole_told, not_failed}
 use Rattle.cdc_top.specs.declared.limits.TheConstants.{SCHEDULE_LIMIT}
 use Rattle.cdc_top.proofs.run.run_schedule.Goals as goal

@@ -1,9 +1,9 @@
-use Rattle.std.proofs.Common.{◌≡◌, ◌≢◌, refl, subst, sym, inl, inr, rules}
+use Rattle.std.proofs.Common.{◌≢◌, refl, inl, inr, rules}
 use Rattle.std.specs.Prelude.{List, ℕ}
 use Rattle.cdc_compile.specs.declared.refusal.Refusal.TheVariants.{Memory}
 use Rattle.cdc_compile.specs.Texts.{refusal_text}
 use Rattle.cdc_prog.specs.Translation.{program_of}
-use Rattle.cdc_top.specs.Answer.{Files, IsRefusedWith, compiled_code}
+use Rattle.cdc_top.specs.Answer.{Files, IsRefusedWith}
 use Rattle.cdc_top.specs.Report.{answer}
 use Rattle.cdc_top.proofs.Ends.{ended_memory, ended_said, ended_behind, unread, unread_told}
 use Rattle.cdc_top.specs.declared.status.TheConstants.{PROGRAM_REFUSED}
