@@ -18,3 +18,4 @@ pub mod Forks
 pub mod Serial
 pub mod Answers
 pub mod Starts
+pub mod Programs

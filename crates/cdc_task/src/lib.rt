@@ -15,6 +15,8 @@ mod run;
 mod step;
 mod streams;
 mod task;
+#[cfg(test)]
+mod tests;
 mod values;
 mod words;
 

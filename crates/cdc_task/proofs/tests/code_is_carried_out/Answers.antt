@@ -1,0 +1,11 @@
+use Rattle.cdc_task.proofs.Programs.{one_sound, largest_sound}
+use Rattle.cdc_task.proofs.tests.code_is_carried_out.Goals as goal
+
+pub run_alone-requires-clause-sound : goal.run_alone-requires-clause-sound
+run_alone-requires-clause-sound g c = one_sound c.in_ok-sum.sum c.in_ok-sum.ensures
+
+pub run_alone-requires-2-clause-sound : goal.run_alone-requires-2-clause-sound
+run_alone-requires-2-clause-sound g c = one_sound c.in_ok-sum.sum c.in_ok-sum.ensures
+
+pub run_alone-requires-3-clause-sound : goal.run_alone-requires-3-clause-sound
+run_alone-requires-3-clause-sound g c = largest_sound c.in_ok-turns.turns c.in_ok-turns.ensures
