@@ -214,67 +214,95 @@ fn count(object: u32, sites: (u32, u32, u32), control: Control, body: Vec<Stmt>)
     }
 }
 
-fn nested_loop(alloc: Global) -> Result<Vec<Stmt>, NoMemory> {
+fn inner_loop(alloc: Global) -> Result<Stmt, NoMemory> {
     let target = element(alloc, at(6, Var::Object(2)), value_of(4, 1))?;
     let set = set(4, target, value_of(5, 0));
     let inner = control(3, value_of(2, 0), Expr::Number(5), Expr::Number(2));
-    let inner = count(1, (3, 7, 8), inner, vec![in alloc; set]?);
-    let outer = control(2, Expr::Number(1), Expr::Number(2), Expr::Number(1));
-    let outer = count(0, (1, 9, 10), outer, vec![in alloc; inner]?);
-    Ok(vec![in alloc; outer]?)
+    Ok(count(1, (3, 7, 8), inner, vec![in alloc; set]?))
 }
 
-fn choice(alloc: Global) -> Result<Vec<Stmt>, NoMemory> {
-    let n = Var::Object(0);
-    let read = Stmt::Read {
+fn nested_loop(alloc: Global) -> Result<Vec<Stmt>, NoMemory> {
+    let outer = control(2, Expr::Number(1), Expr::Number(2), Expr::Number(1));
+    let body = vec![in alloc; inner_loop(alloc)?]?;
+    Ok(vec![in alloc; count(0, (1, 9, 10), outer, body)]?)
+}
+
+fn read(alloc: Global) -> Result<Stmt, NoMemory> {
+    let target = scalar(alloc, at(1, Var::Object(0)));
+    Ok(Stmt::Read {
         line: 2,
-        targets: List::of(vec![in alloc; scalar(alloc, at(1, n))]?),
-    };
-    let shown = vec![in alloc; Item::Text(0), Item::Value(value_of(3, 0))]?;
-    let below = bin(alloc, BinOp::Lt, value_of(2, 0), Expr::Number(0))?;
-    let below = arm(3, below, vec![in alloc; print(4, shown)]?);
-    let zero = bin(alloc, BinOp::Eq, value_of(4, 0), Expr::Number(0))?;
-    let zero = arm(5, zero, vec![in alloc; print(6, vec![in alloc]?)]?);
+        targets: List::of(vec![in alloc; target]?),
+    })
+}
+
+fn below_zero(alloc: Global) -> Result<Arm, NoMemory> {
+    let cond = bin(alloc, BinOp::Lt, value_of(2, 0), Expr::Number(0))?;
+    let items = vec![in alloc; Item::Text(0), Item::Value(value_of(3, 0))]?;
+    Ok(arm(3, cond, vec![in alloc; print(4, items)]?))
+}
+
+fn at_zero(alloc: Global) -> Result<Arm, NoMemory> {
+    let cond = bin(alloc, BinOp::Eq, value_of(4, 0), Expr::Number(0))?;
+    Ok(arm(5, cond, vec![in alloc; print(6, Vec::new(alloc))]?))
+}
+
+fn above_zero(alloc: Global) -> Result<Stmt, NoMemory> {
     let absolute = un(alloc, UnOp::Abs, value_of(5, 0))?;
     let negative = un(alloc, UnOp::Neg, value_of(6, 0))?;
     let greater = bin(alloc, BinOp::Max, absolute, negative)?;
-    let other = set(8, scalar(alloc, at(7, n)), greater);
-    let arms = Stmt::If {
-        arms: List::of(vec![in alloc; below, zero]?),
-        other: List::of(vec![in alloc; other]?),
-    };
-    let more = bin(alloc, BinOp::Gt, value_of(8, 0), Expr::Number(1))?;
-    let one = set(10, scalar(alloc, at(9, n)), Expr::Number(1));
-    let last = Stmt::If {
-        arms: List::of(vec![in alloc; arm(10, more, vec![in alloc; one]?)]?),
-        other: List::new(alloc),
-    };
-    Ok(vec![in alloc; read, arms, last]?)
+    Ok(set(8, scalar(alloc, at(7, Var::Object(0))), greater))
 }
 
-fn parallel(alloc: Global) -> Result<Vec<Stmt>, NoMemory> {
+fn above_one(alloc: Global) -> Result<Arm, NoMemory> {
+    let cond = bin(alloc, BinOp::Gt, value_of(8, 0), Expr::Number(1))?;
+    let one = set(10, scalar(alloc, at(9, Var::Object(0))), Expr::Number(1));
+    Ok(arm(10, cond, vec![in alloc; one]?))
+}
+
+fn first_if(alloc: Global) -> Result<Stmt, NoMemory> {
+    let arms = List::of(vec![in alloc; below_zero(alloc)?, at_zero(alloc)?]?);
+    let other = List::of(vec![in alloc; above_zero(alloc)?]?);
+    Ok(Stmt::If { arms, other })
+}
+
+fn second_if(alloc: Global) -> Result<Stmt, NoMemory> {
+    Ok(Stmt::If {
+        arms: List::of(vec![in alloc; above_one(alloc)?]?),
+        other: List::new(alloc),
+    })
+}
+
+fn choice(alloc: Global) -> Result<Vec<Stmt>, NoMemory> {
+    Ok(vec![in alloc; read(alloc)?, first_if(alloc)?, second_if(alloc)?]?)
+}
+
+fn private_set(alloc: Global) -> Result<Stmt, NoMemory> {
     let twice = bin(alloc, BinOp::Mul, slot(0), Expr::Number(2))?;
-    let private = set(4, scalar(alloc, at(0, Var::Slot(1))), twice);
+    Ok(set(4, scalar(alloc, at(0, Var::Slot(1))), twice))
+}
+
+fn shared_set(alloc: Global) -> Result<Stmt, NoMemory> {
     let array = Var::Object(2);
     let read = Expr::Element(at(2, array), List::of(vec![in alloc; slot(1)]?));
     let sum = bin(alloc, BinOp::Add, slot(1), read)?;
-    let shared = set(5, element(alloc, at(3, array), slot(0))?, sum);
+    let target = element(alloc, at(3, array), slot(0))?;
+    Ok(set(5, target, sum))
+}
+
+fn parallel(alloc: Global) -> Result<Vec<Stmt>, NoMemory> {
+    let body = vec![in alloc; private_set(alloc)?, shared_set(alloc)?]?;
     let doall = Stmt::Doall {
         control: control(3, Expr::Number(1), Expr::Number(4), Expr::Number(1)),
         number: 1,
         slots: 2,
-        body: List::of(vec![in alloc; private, shared]?),
+        body: List::of(body),
     };
     Ok(vec![in alloc; doall]?)
 }
 
-// A program of one unit.
+// The code of a program of one unit.
 fn alone(alloc: Global, body: Vec<Stmt>) -> Result<Code, NoMemory> {
-    let main = Unit {
-        name: List::new(alloc),
-        dummies: List::new(alloc),
-        body: List::of(body),
-    };
+    let main = unit(alloc, Vec::new(alloc), body);
     let program = Program {
         units: List::of(vec![in alloc; main]?),
         main: 0,
@@ -326,18 +354,24 @@ fn object(alloc: Global, dims: Vec<Dim>, base: u32, words: u32) -> Result<Object
     })
 }
 
-// SUBROUTINE S(X, K); X(K) = K; END; PROGRAM P; CALL S(A, 1 + 2); END
-fn calling(alloc: Global) -> Result<Program, NoMemory> {
+fn unit(alloc: Global, dummies: Vec<Dummy>, body: Vec<Stmt>) -> Unit {
+    Unit {
+        name: List::new(alloc),
+        dummies: List::of(dummies),
+        body: List::of(body),
+    }
+}
+
+fn subroutine(alloc: Global) -> Result<Unit, NoMemory> {
     let k = Var::Dummy(1);
     let target = element(alloc, at(3, Var::Dummy(0)), Expr::Scalar(at(1, k)))?;
-    let set = set(2, target, Expr::Scalar(at(2, k)));
-    let first = dummy(alloc, vec![in alloc; BOUNDS]?);
-    let second = dummy(alloc, vec![in alloc]?);
-    let subroutine = Unit {
-        name: List::new(alloc),
-        dummies: List::of(vec![in alloc; first, second]?),
-        body: List::of(vec![in alloc; set]?),
-    };
+    let body = vec![in alloc; set(2, target, Expr::Scalar(at(2, k)))]?;
+    let array = dummy(alloc, vec![in alloc; BOUNDS]?);
+    let dummies = vec![in alloc; array, dummy(alloc, Vec::new(alloc))]?;
+    Ok(unit(alloc, dummies, body))
+}
+
+fn caller(alloc: Global) -> Result<Unit, NoMemory> {
     let three = bin(alloc, BinOp::Add, Expr::Number(1), Expr::Number(2))?;
     let hidden = Actual::Copy(at(4, Var::Object(1)), three);
     let call = Stmt::Call {
@@ -345,18 +379,24 @@ fn calling(alloc: Global) -> Result<Program, NoMemory> {
         unit: 0,
         actuals: List::of(vec![in alloc; Actual::Whole(Var::Object(0)), hidden]?),
     };
-    let main = Unit {
-        name: List::new(alloc),
-        dummies: List::new(alloc),
-        body: List::of(vec![in alloc; call]?),
-    };
+    Ok(unit(alloc, Vec::new(alloc), vec![in alloc; call]?))
+}
+
+fn objects(alloc: Global) -> Result<Vec<Object>, NoMemory> {
     let array = object(alloc, vec![in alloc; BOUNDS]?, 0, 9)?;
-    let hidden = object(alloc, vec![in alloc]?, 9, 1)?;
+    let hidden = object(alloc, Vec::new(alloc), 9, 1)?;
+    Ok(vec![in alloc; array, hidden]?)
+}
+
+// SUBROUTINE S(X, K); X(K) = K; END; PROGRAM P; CALL S(A, 1 + 2); END
+fn calling(alloc: Global) -> Result<Program, NoMemory> {
+    let units = vec![in alloc; subroutine(alloc)?, caller(alloc)?]?;
+    let objects = objects(alloc)?;
     let text = List::of(vec![in alloc; b'h', b'i']?);
     Ok(Program {
-        units: List::of(vec![in alloc; subroutine, main]?),
+        units: List::of(units),
         main: 1,
-        objects: List::of(vec![in alloc; array, hidden]?),
+        objects: List::of(objects),
         texts: List::of(vec![in alloc; text]?),
         sites: 4,
         doalls: 0,
