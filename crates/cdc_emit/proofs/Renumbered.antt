@@ -1,4 +1,4 @@
--- The code of a program of its parts; it does not depend on the numbers of CALLs.
+-- The code of a program, put together of its parts. It does not depend on the numbers of CALLs.
 use Rattle.std.proofs.Common.{◌≡◌, ℕ, ◌+◌, ◌==◌, List, [], ◌∷◌, ◌++◌, length, map, refl, sym, ap, ap₂, ◌∙◌}
 use Rattle.cdc_prog.specs.declared.program.Dim.{Dim}
 use Rattle.cdc_prog.specs.declared.program.Dummy.{Dummy}
@@ -13,6 +13,7 @@ use Rattle.cdc_prog.specs.Translation.{unit_of, program_of}
 use Rattle.cdc_code.specs.declared.instr.Step.{Step}
 use Rattle.cdc_code.specs.Template.{at_line, end_instr, condition_code, do_code, doall_code, stmt_code, unit_code, units_code, unit_starts, code_of}
 
+-- ---- numbers of CALLs
 module _ (marks : List Mark) where
   same_stmt : (before : ℕ) (s : Stmt) → stmt_code marks (calls_numbered before s) ≡ stmt_code marks s
   same_stmt before Skip = refl
@@ -66,6 +67,7 @@ same_code p marks =
       words = p.words;
     }
 
+-- ---- the whole
 -- the dimensions of the dummies of units
 abbrev pub shapes_of : List listed.Unit → List (List (List Dim))
 shapes_of us = map (λ (u : listed.Unit). map (λ (d : Dummy). d.dims) u.dummies) us
@@ -74,7 +76,7 @@ plain_shapes : (us : List listed.Unit) → shapes_of us ≡ map shape_of (map un
 plain_shapes [] = refl
 plain_shapes (u ∷ us) = ap (λ (l : List (List (List Dim))). map (λ (d : Dummy). d.dims) u.dummies ∷ l) (plain_shapes us)
 
--- the code of a program, put together of its parts
+-- what is emitted of units and copied of the rest is the code
 pub assembled : (p : whole.Program) (marks : Marks) (us : List listed.Unit) (reads : List Mark) (none steps : List Step) (starts : List ℕ) (shapes : List (List (List Dim))) (objects : List Object) (texts : List (List ℕ)) (entries exits : List (List ℕ)) →
     us ≡ p.units → reads ≡ marks.reads → none ≡ [] → steps ≡ none ++ units_code reads p.main 0 (map unit_of us) → starts ≡ unit_starts reads p.main 0 (map unit_of us) (length none) → shapes ≡ shapes_of us →
     objects ≡ p.objects → texts ≡ p.texts → entries ≡ marks.entries → exits ≡ marks.exits →
