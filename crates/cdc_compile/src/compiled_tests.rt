@@ -48,9 +48,57 @@ const LARGE_STEPS: [(u32, Instr); 20] = [
     (0, Instr::Halt),
 ];
 
+// A sign stands before a whole term, so `-7 / 2` is the negative of a quotient.
+const SIGNS: &str =
+    "PROGRAM AR\nPRINT *, MOD(-7, 3), -7 / 2, 7 / (-2), -2 * 3\nK = -9223372036854775807 - 1\nPRINT *, K\nPRINT *, ABS(K)\nEND\n";
+
+const SIGNS_STEPS: [(u32, Instr); 37] = [
+    (2, Instr::Const(7)),
+    (2, Instr::Neg),
+    (2, Instr::Const(3)),
+    (2, Instr::Mod),
+    (2, Instr::Put),
+    (2, Instr::Const(7)),
+    (2, Instr::Const(2)),
+    (2, Instr::Div),
+    (2, Instr::Neg),
+    (2, Instr::Gap),
+    (2, Instr::Put),
+    (2, Instr::Const(7)),
+    (2, Instr::Const(2)),
+    (2, Instr::Neg),
+    (2, Instr::Div),
+    (2, Instr::Gap),
+    (2, Instr::Put),
+    (2, Instr::Const(2)),
+    (2, Instr::Const(3)),
+    (2, Instr::Mul),
+    (2, Instr::Neg),
+    (2, Instr::Gap),
+    (2, Instr::Put),
+    (2, Instr::Line),
+    (3, Instr::Const(9_223_372_036_854_775_807)),
+    (3, Instr::Neg),
+    (3, Instr::Const(1)),
+    (3, Instr::Sub),
+    (3, Instr::Store(A, 1)),
+    (4, Instr::Load(A, 2, Mark::Ordinary)),
+    (4, Instr::Put),
+    (4, Instr::Line),
+    (5, Instr::Load(A, 3, Mark::Ordinary)),
+    (5, Instr::Abs),
+    (5, Instr::Put),
+    (5, Instr::Line),
+    (0, Instr::Halt),
+];
+
 #[test]
 fn a_source_has_its_code(rt: HostRuntime) -> Result<(), Fail> {
-    let cases: [(&str, &[(u32, Instr)]); 2] = [(ONE, &ONE_STEPS), (LARGE, &LARGE_STEPS)];
+    let cases: [(&str, &[(u32, Instr)]); 3] = [
+        (ONE, &ONE_STEPS),
+        (LARGE, &LARGE_STEPS),
+        (SIGNS, &SIGNS_STEPS),
+    ];
     for (source, steps) in cases {
         let Ok(compiled) = compile(rt.alloc(), source.as_bytes()) else {
             panic!(rt; "{source}");
