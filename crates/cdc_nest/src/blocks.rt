@@ -203,6 +203,7 @@ pub(crate) fn advanced(
         last: _,
     } = before;
     if let Some(first) = past(blocks, line) {
+        drop(open);
         return Err(ParseRefusal::Depth(first));
     }
     let role = role_of(&statement.form);
@@ -236,7 +237,10 @@ pub(crate) fn finished(progress: Progress) -> Result<List<UnitText>, ParseRefusa
     let Open { units, inside } = open;
     match inside {
         None => between(units, blocks, last),
-        Some(_) => Err(ParseRefusal::Nesting(last)),
+        Some(inside) => {
+            drop(inside);
+            Err(ParseRefusal::Nesting(last))
+        }
     }
 }
 

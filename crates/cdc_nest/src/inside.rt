@@ -1,6 +1,7 @@
 //! A unit that is being read: its parts so far and its open blocks.
 
 ghost use Rattle.std.specs.Prelude.{◌≡◌, Some, map, option_map, []};
+ghost use Rattle.cdc_nest.specs.declared.inside.Unfit.TheVariants.{Misfit};
 ghost use Rattle.cdc_tree.specs.Units.{node, body, branch, branches_of, unit, NIf, NElse, BNone, Empty};
 ghost use Rattle.cdc_tree.specs.Forms as f;
 ghost use Rattle.cdc_nest.specs.Nesting as n;
@@ -69,7 +70,6 @@ impl<T: Drop> From<AllocFailed<T>> for Unfit {
 }
 
 /// The nodes with one more at the end.
-#[tactic(auto, using(crate::proofs::Puts::body_put))]
 fn added(mut nodes: Vec<Node>, item: Node) -> Result<Vec<Node>, Unfit>
     ensures { n.Makes (λ x. body x.items) result (Some (n.put (body nodes.items) (node item))) }
 {
@@ -167,6 +167,15 @@ fn is_bare(none: &Option<Statement>, declarations: &[Statement], nodes: &[Node])
     }
 }
 
+/// Spends what is open and a statement that does not fit there.
+fn misfit(open: Inside, statement: Statement) -> Unfit
+    ensures { result ≡ Misfit }
+{
+    drop(open);
+    drop(statement);
+    Unfit::Misfit
+}
+
 /// IMPLICIT NONE stands first in a unit, and once.
 fn implicit(open: Inside, statement: Statement) -> Result<Inside, Unfit>
     ensures { n.Makes n.inside result (n.implicit (n.inside «open») (f.statement statement)) }
@@ -189,12 +198,11 @@ fn implicit(open: Inside, statement: Statement) -> Result<Inside, Unfit>
                 nodes,
             })
         }
-        _ => Err(Unfit::Misfit),
+        other => Err(misfit(other, statement)),
     }
 }
 
 /// Declarations stand before the executable statements.
-#[tactic(auto, using(crate::proofs::Puts::declarations_put))]
 fn declare(open: Inside, statement: Statement) -> Result<Inside, Unfit>
     ensures { n.Makes n.inside result (n.declare (n.inside «open») (f.statement statement)) }
 {
@@ -216,7 +224,7 @@ fn declare(open: Inside, statement: Statement) -> Result<Inside, Unfit>
                 nodes,
             })
         }
-        _ => Err(Unfit::Misfit),
+        other => Err(misfit(other, statement)),
     }
 }
 
@@ -238,7 +246,7 @@ fn else_if(alloc: Global, open: Inside, statement: Statement) -> Result<Inside, 
                 nodes: Vec::new(alloc),
             })
         }
-        _ => Err(Unfit::Misfit),
+        other => Err(misfit(other, statement)),
     }
 }
 
@@ -260,7 +268,7 @@ fn otherwise(alloc: Global, open: Inside, statement: Statement) -> Result<Inside
                 nodes: Vec::new(alloc),
             })
         }
-        _ => Err(Unfit::Misfit),
+        other => Err(misfit(other, statement)),
     }
 }
 
@@ -300,7 +308,7 @@ fn end_if(open: Inside, statement: Statement) -> Result<Inside, Unfit>
             Box::into_inner(outer),
             else_node(branches, head, nodes, statement),
         ),
-        _ => Err(Unfit::Misfit),
+        other => Err(misfit(other, statement)),
     }
 }
 
@@ -326,7 +334,7 @@ fn end_loop(open: Inside, statement: Statement, end: Role) -> Result<Inside, Unf
             let body = List::of(nodes);
             add(Box::into_inner(outer), Node::Loop(head, body, statement))
         }
-        _ => Err(Unfit::Misfit),
+        other => Err(misfit(other, statement)),
     }
 }
 
@@ -386,9 +394,7 @@ pub(crate) fn step_in(
         Role::EndIf => end_if(open, statement),
         Role::EndDo => end_loop(open, statement, Role::EndDo),
         Role::EndDoall => end_loop(open, statement, Role::EndDoall),
-        Role::Program => Err(Unfit::Misfit),
-        Role::Subroutine => Err(Unfit::Misfit),
-        Role::End => Err(Unfit::Misfit),
+        Role::Program | Role::Subroutine | Role::End => Err(misfit(open, statement)),
     }
 }
 
@@ -416,6 +422,6 @@ pub(crate) fn close(open: Inside, end: Statement) -> Result<UnitText, Unfit>
                 end,
             })
         }
-        _ => Err(Unfit::Misfit),
+        other => Err(misfit(other, end)),
     }
 }

@@ -6,9 +6,9 @@ ghost use Rattle.cdc_parse.specs.Reading as r;
 ghost use Rattle.cdc_tree.specs.Forms as v;
 ghost use Rattle.cdc_parse.specs.Forms as f;
 
-use crate::parts::number;
+use crate::parts::{alone, number};
 use crate::refusal::Unread;
-use crate::token::{after, expect, expect_word, finished, name_at};
+use crate::token::{after, expect, expect_word, name_at};
 use crate::word::Word;
 use cdc_base::List;
 use cdc_token::{Lexed, Symbol};
@@ -131,16 +131,14 @@ fn parameter(alloc: Global, tokens: &[Lexed]) -> Result<Form, Unread>
     let rest = expect_word(Word::Parameter, tokens)?;
     let rest = expect(Symbol::DoubleColon, rest)?;
     let (defines, rest) = defines(alloc, rest)?;
-    finished(rest)?;
-    Ok(Form::Parameter(List::of(defines)))
+    alone(Form::Parameter(List::of(defines)), rest)
 }
 
 fn items(alloc: Global, tokens: &[Lexed]) -> Result<Form, Unread>
     ensures { Gives v.form result (f.items_at tokens.now) }
 {
     let (declarations, rest) = declarations(alloc, tokens)?;
-    finished(rest)?;
-    Ok(Form::Integer(List::of(declarations)))
+    alone(Form::Integer(List::of(declarations)), rest)
 }
 
 /// What follows INTEGER.
@@ -161,6 +159,5 @@ pub(crate) fn implicit(tokens: &[Lexed]) -> Result<Form, Unread>
     ensures { Gives v.form result (f.implicit_at tokens.now) }
 {
     let rest = expect_word(Word::Nothing, tokens)?;
-    finished(rest)?;
-    Ok(Form::ImplicitNone)
+    alone(Form::ImplicitNone, rest)
 }

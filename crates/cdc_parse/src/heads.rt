@@ -7,7 +7,7 @@ ghost use Rattle.cdc_tree.specs.Forms as v;
 ghost use Rattle.cdc_parse.specs.Forms as f;
 
 use crate::declaration::{implicit, integer};
-use crate::parts::{closed_names, dummies, guard, number};
+use crate::parts::{alone, closed_names, dummies, guard, number};
 use crate::refusal::Unread;
 use crate::simple::simple;
 use crate::token::{after, after_word, expect, expect_word, finished, name_at, word_at};
@@ -21,8 +21,7 @@ fn program(alloc: Global, tokens: &[Lexed]) -> Result<Form, Unread>
     ensures { Gives v.form result (f.program_at tokens.now) }
 {
     let (name, rest) = name_at(alloc, tokens)?;
-    finished(rest)?;
-    Ok(Form::Program(name))
+    alone(Form::Program(name), rest)
 }
 
 fn subroutine(alloc: Global, tokens: &[Lexed]) -> Result<Form, Unread>
@@ -30,8 +29,7 @@ fn subroutine(alloc: Global, tokens: &[Lexed]) -> Result<Form, Unread>
 {
     let (name, rest) = name_at(alloc, tokens)?;
     let (dummies, rest) = dummies(alloc, rest)?;
-    finished(rest)?;
-    Ok(Form::Subroutine(name, dummies))
+    alone(Form::Subroutine(name, dummies), rest)
 }
 
 /// The name at the end of the line, if there is one.
@@ -46,13 +44,6 @@ fn last_name(alloc: Global, tokens: &[Lexed]) -> Result<Option<Named>, Unread>
             Ok(Some(name))
         }
     }
-}
-
-fn alone(form: Form, tokens: &[Lexed]) -> Result<Form, Unread>
-    ensures { Gives v.form result (f.alone (v.form form) tokens.now) }
-{
-    finished(tokens)?;
-    Ok(form)
 }
 
 /// What follows END.
@@ -103,8 +94,7 @@ fn counted(alloc: Global, tokens: &[Lexed]) -> Result<Form, Unread>
     ensures { Gives v.form result (f.do_at tokens.now) }
 {
     let (controls, rest) = controls(alloc, tokens)?;
-    finished(rest)?;
-    Ok(Form::Do(controls))
+    alone(Form::Do(controls), rest)
 }
 
 /// The private names of a DOALL, where there are any.
@@ -129,8 +119,13 @@ fn doall(alloc: Global, tokens: &[Lexed]) -> Result<Form, Unread>
     ensures { Gives v.form result (f.doall_at tokens.now) }
 {
     let (controls, rest) = controls(alloc, tokens)?;
-    let privates = privates(alloc, rest)?;
-    Ok(Form::Doall(controls, privates))
+    match privates(alloc, rest) {
+        Ok(privates) => Ok(Form::Doall(controls, privates)),
+        Err(unread) => {
+            drop(controls);
+            Err(unread)
+        }
+    }
 }
 
 fn place_at(tokens: &[Lexed]) -> Result<Place, Unread>
@@ -169,8 +164,7 @@ fn other_choice(alloc: Global, tokens: &[Lexed]) -> Result<Form, Unread>
 {
     let (condition, rest) = guard(alloc, tokens)?;
     let rest = expect_word(Word::Then, rest)?;
-    finished(rest)?;
-    Ok(Form::ElseIf(condition))
+    alone(Form::ElseIf(condition), rest)
 }
 
 /// What follows ELSE.

@@ -10,10 +10,10 @@ ghost use Rattle.cdc_parse.specs.Forms as f;
 use crate::kind::{Kind, kind_of};
 use crate::reading::{WHOLE, read};
 use crate::refusal::Unread;
-use crate::token::{after, expect, name_at};
+use crate::token::{after, expect, finished, name_at};
 use cdc_base::List;
 use cdc_token::{Lexed, Symbol};
-use cdc_tree::{Named, Spot, Tree};
+use cdc_tree::{Form, Named, Spot, Tree};
 use std::alloc::Global;
 
 /// At most so many parentheses are open in an expression or a condition.
@@ -58,6 +58,17 @@ pub(crate) fn guard(alloc: Global, tokens: &[Lexed]) -> Result<(Tree, &[Lexed]),
     let (condition, rest) = condition(alloc, rest)?;
     let rest = expect(Symbol::RightParen, rest)?;
     Ok((condition, rest))
+}
+
+/// The statement, where no tokens are left over.
+pub(crate) fn alone(form: Form, tokens: &[Lexed]) -> Result<Form, Unread>
+    ensures { Gives v.form result (f.alone (v.form form) tokens.now) }
+{
+    if let Err(unread) = finished(tokens) {
+        drop(form);
+        return Err(unread);
+    }
+    Ok(form)
 }
 
 /// Names with commas between.

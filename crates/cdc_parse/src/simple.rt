@@ -6,9 +6,9 @@ ghost use Rattle.cdc_parse.specs.Reading as r;
 ghost use Rattle.cdc_tree.specs.Forms as v;
 ghost use Rattle.cdc_parse.specs.Forms as f;
 
-use crate::parts::{actuals, number, spot};
+use crate::parts::{actuals, alone, number, spot};
 use crate::refusal::Unread;
-use crate::token::{after, copied, expect, finished, name_at, word_at};
+use crate::token::{after, copied, expect, name_at, word_at};
 use crate::word::Word;
 use cdc_base::List;
 use cdc_token::{Lexed, Symbol, Token};
@@ -21,8 +21,7 @@ fn assign(alloc: Global, tokens: &[Lexed]) -> Result<Form, Unread>
     let (target, rest) = spot(alloc, tokens)?;
     let rest = expect(Symbol::Assign, rest)?;
     let (value, rest) = number(alloc, rest)?;
-    finished(rest)?;
-    Ok(Form::Assign(target, value))
+    alone(Form::Assign(target, value), rest)
 }
 
 fn call(alloc: Global, tokens: &[Lexed]) -> Result<Form, Unread>
@@ -30,8 +29,7 @@ fn call(alloc: Global, tokens: &[Lexed]) -> Result<Form, Unread>
 {
     let (name, rest) = name_at(alloc, tokens)?;
     let (actuals, rest) = actuals(alloc, rest)?;
-    finished(rest)?;
-    Ok(Form::Call(name, actuals))
+    alone(Form::Call(name, actuals), rest)
 }
 
 /// A text or an expression.
@@ -93,8 +91,7 @@ fn print(alloc: Global, tokens: &[Lexed]) -> Result<Form, Unread>
 {
     let rest = expect(Symbol::Star, tokens)?;
     let (items, rest) = all_shown(alloc, rest)?;
-    finished(rest)?;
-    Ok(Form::Print(List::of(items)))
+    alone(Form::Print(List::of(items)), rest)
 }
 
 fn read(alloc: Global, tokens: &[Lexed]) -> Result<Form, Unread>
@@ -102,8 +99,7 @@ fn read(alloc: Global, tokens: &[Lexed]) -> Result<Form, Unread>
 {
     let rest = expect(Symbol::Star, tokens)?;
     let (targets, rest) = spots(alloc, rest)?;
-    finished(rest)?;
-    Ok(Form::Read(List::of(targets)))
+    alone(Form::Read(List::of(targets)), rest)
 }
 
 /// The assignment, CALL, PRINT or READ that the tokens are.

@@ -88,8 +88,14 @@ pub enum Form {
 
 /// A statement, and the place of its first token.
 #[cycle(form)]
-#[derive(Drop)]
 pub struct Statement {
     pub place: Place,
     pub form: Form,
+}
+
+/// Written out, so that where a statement is let go there is a call, and not each form once more.
+impl Drop for Statement {
+    fn drop(self) {
+        let Statement { place: _, form: _ } = self;
+    }
 }
