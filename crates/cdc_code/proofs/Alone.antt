@@ -176,7 +176,7 @@ code_runs = record {
       (run (process_of p records) zeros, in_order code marks.reads Anywhere 8 (process_of p records) (first_frame code records) zeros (follows.follows p marks records r numbered), refl, refl);
 }
 
-pub code_is_sound : CodeIsSound
+unfoldable pub code_is_sound : CodeIsSound
 code_is_sound p marks r numbered room unaliased apart = record {
   program = p;
   marks = marks;

@@ -29,7 +29,8 @@ use Rattle.cdc_task.specs.Steps.{GoesOn}
 use Rattle.cdc_task.specs.Laws.{HasArrays}
 use Rattle.cdc_task.proofs.Sound.{code_goes_on}
 use Rattle.cdc_epoch.specs.Machine.{State, acted, counted, event, play, start, run}
-use Rattle.cdc_epoch.specs.Laws.{IsMeant, HasNoDoall, MeansTheProgram}
+use Rattle.cdc_epoch.specs.Laws.{IsMeant, MeansTheProgram}
+use Rattle.cdc_prog.specs.Resolved.{HasNoDoall}
 use Rattle.cdc_epoch.specs.Ready.{NoFork, IsReady}
 
 -- a process that forks nothing

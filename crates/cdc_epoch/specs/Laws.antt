@@ -4,8 +4,7 @@ use Rattle.cdc_prog.specs.declared.program.Mark.{Mark}
 use Rattle.cdc_prog.specs.Plain.{Program}
 use Rattle.cdc_prog.specs.Input.{Input}
 use Rattle.cdc_prog.specs.InOrder.{End}
-use Rattle.cdc_prog.specs.Bodies.{HasOnly}
-use Rattle.cdc_prog.specs.Units.{body_of}
+use Rattle.cdc_prog.specs.Resolved.{HasNoDoall}
 use Rattle.cdc_prog.specs.Meaning.{Meaning, meaning, bytes_of}
 use Rattle.cdc_code.specs.declared.code.Code.{Code}
 use Rattle.cdc_code.specs.Act.{Reads}
@@ -26,9 +25,6 @@ pub record IsFront (front whole : List ℕ) : Type 0 where
 pub record IsMeant (texts : List (List ℕ)) (meant : Meaning) (m : State) : Type 0 where
   pub running : m.ended ≡ None → IsFront (bytes_of texts m.printed) meant.bytes
   pub over : (end : End) → m.ended ≡ Some end → (bytes_of texts m.printed ≡ meant.bytes) × (end ≡ meant.end)
-
-abbrev pub HasNoDoall : Program → Type 0
-HasNoDoall p = (u : ℕ) → HasOnly (Unit {0}) ⊥ (Unit {0}) (body_of p u)
 
 -- the machine on sound code of a program without DOALL
 pub record MeansTheProgram : Type 0 where

@@ -1,8 +1,9 @@
 -- What the iterations of a DOALL can access, and that they are apart.
-use Rattle.std.specs.Prelude.{◌≡◌, ◌⊎◌, ℕ, zero, suc, ◌+◌, ◌<◌, true, ◌||◌, ℤ, pos, ◌+ℤ◌, ◌*ℤ◌, ◌≤ℤ◌, List, [], ◌∷◌, length, Option, Some, None, Ok}
+use Rattle.std.specs.Prelude.{◌≡◌, ◌⊎◌, ℕ, zero, suc, ◌+◌, ◌<◌, ◌≤◌, true, ◌||◌, ℤ, pos, ◌+ℤ◌, ◌*ℤ◌, ◌≤ℤ◌, List, [], ◌∷◌, length, Option, Some, None, Ok}
 use Rattle.cdc_prog.specs.declared.expr.Var.{Var}
 use Rattle.cdc_prog.specs.declared.expr.Var.TheVariants as var
 use Rattle.cdc_prog.specs.declared.affine.Range.{Range}
+use Rattle.cdc_prog.specs.declared.affine.Index.{Index}
 use Rattle.cdc_prog.specs.Plain.{Expr, Number, Scalar, Element, Un, Bin, Exprs, Empty, More, Control, Stmt, Skip, Seq, Assign, If, Arm, Do, Doall, Program}
 use Rattle.cdc_prog.specs.Value.{unary, binary, trips}
 use Rattle.cdc_prog.specs.Data.{Store, put, Binding, object_of, base_of, dims_of, element}
@@ -16,7 +17,7 @@ use Rattle.cdc_prog.specs.Paths.{IsUnder}
 use Rattle.cdc_prog.specs.Premises.{StoresAlone, KeepsLoopVariables, IsUnaliased}
 use Rattle.cdc_prog.specs.Apart.{AreApart}
 use Rattle.cdc_prog.specs.Affine.{is_in}
-use Rattle.cdc_prog.specs.Dependence.{Spot, spots, scope_of}
+use Rattle.cdc_prog.specs.Dependence.{range_in, Spot, spots, scope_of}
 
 -- R holds of the site and the word of each read of a process alone on a store, and W of those of each write
 abbrev pub Each : (R W : ℕ → ℕ → Type 0) → Process → Store → Type 0
@@ -54,6 +55,10 @@ pub record LiesIn (r : Range) (x : ℤ) : Type 0 where
 abbrev pub Lies : Option Range → ℤ → Type 0
 Lies None x = Unit {0}
 Lies (Some r) x = LiesIn r x
+
+-- each variable lies in the range of its index, the innermost of that variable
+abbrev pub InRanges : List Index → (Var → ℤ) → Type 0
+InRanges is ρ = (v : Var) (r : Range) → range_in is v ≡ Some r → LiesIn r (ρ v)
 
 abbrev pub IsIn : {A : Type 0} → A → List A → Type 0
 IsIn a [] = ⊥
@@ -157,3 +162,7 @@ abbrev pub IteratesApart : Program → (number : ℕ) → Type 0
 IteratesApart p number =
     (path : List ℕ) (u : ℕ) (bound : List ℕ) (k : Control) (slots : ℕ) (body : Stmt) (calls : Calls) →
     IsUnder p path u bound → IsDoallIn number k slots body (body_of p u) → IsParallel calls (binding_of p path u bound) k body
+
+-- each DOALL of a program has a number from 1 to the number of its DOALL loops
+abbrev pub HasDoallNumbers : Program → Type 0
+HasDoallNumbers p = (u number slots : ℕ) (k : Control) (body : Stmt) → IsDoallIn number k slots body (body_of p u) → (1 ≤ number) × (number ≤ p.doalls)

@@ -9,10 +9,11 @@ use Rattle.cdc_prog.specs.Alone.{left}
 use Rattle.cdc_prog.specs.InOrder.{Run}
 use Rattle.cdc_code.specs.declared.code.Code.{Code}
 use Rattle.cdc_task.specs.declared.run.Fork.{Fork}
-use Rattle.cdc_task.specs.declared.run.Stop.{Stop}
+use Rattle.cdc_prog.specs.declared.stop.Stop.{Stop}
 use Rattle.cdc_task.specs.Held.{Held, frame_of, resumed}
 use Rattle.cdc_task.specs.Course.{Serial, Inside, next_place, Lasts}
-use Rattle.cdc_task.specs.Running.{Forking, bodies, before, EndsWithin, IsNearer, turn, turns, Output, Follows, Comes}
+use Rattle.cdc_prog.specs.Output.{Output}
+use Rattle.cdc_task.specs.Running.{Forking, bodies, before, EndsWithin, IsNearer, turn, turns, Follows, Comes}
 use Rattle.cdc_task.proofs.Remaining.{further}
 use Rattle.cdc_task.proofs.Output.{as_run, follows_after, comes_after, comes_err}
 

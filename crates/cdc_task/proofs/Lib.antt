@@ -5,7 +5,6 @@ pub mod Room
 pub mod Same
 pub mod GoesOn
 pub mod Sound
-pub mod Indexes
 pub mod Unpathed
 pub mod Remaining
 pub mod Ends
@@ -16,6 +15,5 @@ pub mod Turns
 pub mod Cells
 pub mod Forks
 pub mod Serial
-pub mod Answers
 pub mod Starts
 pub mod Programs

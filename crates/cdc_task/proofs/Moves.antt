@@ -18,7 +18,8 @@ use Rattle.cdc_code.proofs.OneStep.{Leads, IsAtEnd, Still, one_step}
 use Rattle.cdc_task.specs.declared.end.StepEnd.TheVariants.{Went, Printed, Forked, Joined, Halted, Faulted}
 use Rattle.cdc_task.specs.declared.port.Port.{Ghosts}
 use Rattle.cdc_task.specs.Held.{Held, frame_of, StandsIn, resumed, begun}
-use Rattle.cdc_task.specs.Steps.{GoesOn, HasIndexes, Stepped}
+use Rattle.cdc_task.specs.Steps.{GoesOn, Stepped}
+use Rattle.cdc_prog.specs.Trips.{HasIndexes}
 use Rattle.cdc_task.specs.Course.{unpathed, unpathed_act, Serial, Before, Inside, serial_next, inside_next, next_place}
 use Rattle.cdc_task.specs.Running.{Doing, Forking}
 use Rattle.cdc_task.proofs.Unpathed.{same_act}

@@ -1,15 +1,13 @@
 -- The codes of the tests are sound.
-use Rattle.std.proofs.Common.{◌≡◌, ◌⊎◌, inl, inr, ℕ, zero, suc, ◌<◌, ◌≤◌, [], ◌∷◌, length, refl, sym, subst, ◌∙◌, arith, rules}
-use Rattle.std.specs.Prelude.{slice_get}
+use Rattle.std.proofs.Common.{◌≡◌, ◌⊎◌, inl, inr, ℕ, zero, suc, ◌≤◌, [], ◌∷◌, refl, sym, subst, ◌∙◌, arith, rules}
 use Rattle.std.specs.List.{Any}
 use Rattle.cdc_prog.specs.declared.expr.Var.{Var}
 use Rattle.cdc_prog.specs.declared.program.Marks.{Marks}
 use Rattle.cdc_prog.specs.declared.expr.Var.TheVariants.{Object}
 use Rattle.cdc_prog.specs.Plain.{Program}
 use Rattle.cdc_prog.specs.Input.{Input}
-use Rattle.cdc_prog.specs.Units.{shapes_in, body_of, process_of}
+use Rattle.cdc_prog.specs.Units.{body_of, process_of}
 use Rattle.cdc_prog.specs.Uses.{Uses, ItemMentions}
-use Rattle.cdc_prog.specs.Resolved.{StmtFits, IsResolved}
 use Rattle.cdc_prog.specs.Premises.{IsUnaliased}
 use Rattle.cdc_prog.specs.Apart.{IsApart}
 use Rattle.cdc_prog.specs.Examples.{one, largest}
@@ -18,7 +16,7 @@ use Rattle.cdc_code.specs.declared.code.Code.{Code}
 use Rattle.cdc_code.specs.Examples.{unmarked}
 use Rattle.cdc_code.specs.Room.{SlotsRoom, StmtRoom}
 use Rattle.cdc_code.specs.Sound.{IsSound}
-use Rattle.cdc_prog.proofs.Examples.{largest_resolved}
+use Rattle.cdc_prog.proofs.Examples.{one_resolved, largest_resolved}
 use Rattle.cdc_code.proofs.Alone.{code_is_sound}
 
 -- no reference is marked
@@ -35,22 +33,6 @@ unaliased : (p : Program) → ((u : ℕ) (v : Var) → Uses v (body_of p u) → 
 unaliased p only path u bound v w k under of_v of_w differ stores denotes_v denotes_w = differ (only u v of_v ∙ sym (only u w of_w))
 
 -- ---- N = 2 + 3; PRINT *, N + 1
-one_fits : (u : ℕ) → u < length one.units → StmtFits one (λ v. 0) 0 (shapes_in (slice_get one.units u)) 0 (body_of one u)
-one_fits zero lt = search rules
-one_fits (suc n) lt = absurd (omega (arith, lt))
-
-one_resolved : IsResolved one
-one_resolved = record {
-  laid_out = search rules;
-  shaped = search rules;
-  small = omega arith;
-  main = omega arith;
-  main_alone = refl;
-  ranks = λ u. 0;
-  ranked = λ u lt. omega arith;
-  fits = one_fits;
-}
-
 one_slots : (u : ℕ) → SlotsRoom (body_of one u)
 one_slots zero = search rules
 one_slots (suc u) = tt

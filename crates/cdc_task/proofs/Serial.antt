@@ -12,11 +12,13 @@ use Rattle.cdc_task.specs.declared.end.StepEnd.{StepEnd}
 use Rattle.cdc_task.specs.declared.end.StepEnd.TheVariants.{Went, Printed, Forked, Joined, Halted, Faulted}
 use Rattle.cdc_task.specs.declared.port.Port.{Ghosts}
 use Rattle.cdc_task.specs.declared.run.Fork.{Fork as ForkOf}
-use Rattle.cdc_task.specs.declared.run.Stop.{Stop}
+use Rattle.cdc_prog.specs.declared.stop.Stop.{Stop}
 use Rattle.cdc_task.specs.Held.{Held, frame_of, resumed}
-use Rattle.cdc_task.specs.Steps.{HasIndexes, Stepped}
+use Rattle.cdc_task.specs.Steps.{Stepped}
+use Rattle.cdc_prog.specs.Trips.{HasIndexes}
 use Rattle.cdc_task.specs.Course.{Serial, Place, remaining}
-use Rattle.cdc_task.specs.Running.{Doing, Forking, before, EndsWithin, IsNearer, behind, stopped, nothing, turns, Output, Follows, Comes, Says}
+use Rattle.cdc_prog.specs.Output.{Output}
+use Rattle.cdc_task.specs.Running.{Doing, Forking, before, EndsWithin, IsNearer, behind, stopped, nothing, turns, Follows, Comes, Says}
 use Rattle.cdc_task.proofs.Remaining.{remains, further}
 use Rattle.cdc_task.proofs.Moves.{IsMemory, Moved, ForkedOff, steps_went, steps_printed, steps_joined, steps_halted, steps_faulted, steps_forked}
 use Rattle.cdc_task.proofs.Runs.{leads_run, ends_run, forks_run}

@@ -17,11 +17,12 @@ use Rattle.cdc_task.specs.declared.end.StepEnd.{StepEnd}
 use Rattle.cdc_task.specs.declared.end.StepEnd.TheVariants.{Went, Printed, Forked, Joined, Halted, Faulted}
 use Rattle.cdc_task.specs.declared.port.Port.{Ghosts}
 use Rattle.cdc_task.specs.declared.run.Fork.{Fork as ForkOf}
-use Rattle.cdc_task.specs.declared.run.Stop.{Stop}
+use Rattle.cdc_prog.specs.declared.stop.Stop.{Stop}
 use Rattle.cdc_task.specs.Held.{Held, frame_of, resumed, begun}
 use Rattle.cdc_task.specs.Steps.{GoesOn, Stepped}
 use Rattle.cdc_task.specs.Course.{Serial, Inside, Place, next_place, remaining}
-use Rattle.cdc_task.specs.Running.{Doing, Forking, bodies, before, inside, EndsWithin, IsNearer, behind, stopped, turn, Output, Follows, Comes, Says}
+use Rattle.cdc_prog.specs.Output.{Output}
+use Rattle.cdc_task.specs.Running.{Doing, Forking, bodies, before, inside, EndsWithin, IsNearer, behind, stopped, turn, Follows, Comes, Says}
 use Rattle.cdc_task.proofs.GoesOn.{goes_on_here}
 use Rattle.cdc_task.proofs.Remaining.{remains, further}
 use Rattle.cdc_task.proofs.Moves.{IsMemory, Moved, Over, steps_went, steps_printed, steps_joined, steps_halted, steps_faulted, steps_forked}

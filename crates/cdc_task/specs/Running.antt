@@ -1,9 +1,5 @@
 -- What a run on one memory owes.
-use Rattle.std.specs.Prelude.{◌≡◌, ℕ, ◌≤◌, ◌<◌, ℤ, pos, ◌+ℤ◌, ◌*ℤ◌, List, [], ◌∷◌, ◌++◌, length, zero, suc, Option, Some, None, Result, Ok, Err}
-use Rattle.cdc_base.specs.Outside.{grown}
-use Rattle.cdc_base.specs.Causes.{Rose}
-use Rattle.cdc_base.specs.Gathered.{waiting}
-use Rattle.cdc_base.specs.declared.gathered.Gathered.{Gathered}
+use Rattle.std.specs.Prelude.{ℕ, ◌≤◌, ◌<◌, ℤ, pos, ◌+ℤ◌, ◌*ℤ◌, List, [], ◌∷◌, ◌++◌, zero, suc, Option, Result}
 use Rattle.cdc_prog.specs.declared.program.Mark.{Mark}
 use Rattle.cdc_prog.specs.declared.fault.Fault.{Fault}
 use Rattle.cdc_prog.specs.declared.piece.Piece.{Piece}
@@ -11,17 +7,19 @@ use Rattle.cdc_prog.specs.Data.{Store}
 use Rattle.cdc_prog.specs.Input.{Input}
 use Rattle.cdc_prog.specs.Process.{Process}
 use Rattle.cdc_prog.specs.Alone.{left, said, ending}
-use Rattle.cdc_prog.specs.InOrder.{Done, Faulted, fault_of, choose, Run}
-use Rattle.cdc_prog.specs.Meaning.{bytes_of}
+use Rattle.cdc_prog.specs.InOrder.{Done, Faulted, fault_of, choose, Run, run}
+use Rattle.cdc_prog.specs.Output as output
+use Rattle.cdc_prog.specs.Output.{Output, output_of, meaning_of}
+use Rattle.cdc_prog.specs.declared.stop.Stop.{Stop}
 use Rattle.cdc_code.specs.declared.code.Code.{Code}
 use Rattle.cdc_code.specs.Does.{Does}
-use Rattle.cdc_task.specs.declared.run.Stop.{Stop}
-use Rattle.cdc_task.specs.declared.run.Stop.TheVariants as stop
 use Rattle.cdc_code.specs.Frames.{Frame}
 use Rattle.cdc_task.specs.declared.run.Fork.{Fork}
+use Rattle.cdc_task.specs.declared.run.Shared.{Shared}
+use Rattle.cdc_task.specs.Memory.{memory_of}
 use Rattle.cdc_task.specs.Held.{Held, frame_of, resumed, begun}
 use Rattle.cdc_task.specs.Steps.{GoesOn}
-use Rattle.cdc_task.specs.Course.{Spot, Before, Inside, Place, Lasts}
+use Rattle.cdc_task.specs.Course.{Spot, Serial, Before, Inside, Place, Lasts}
 
 -- ---- what tasks do
 -- a task does a process, and goes on wherever that comes to
@@ -49,6 +47,10 @@ before records serial fork k = Before k fork.count (bodies records serial fork) 
 
 abbrev pub inside : Input → (serial : Held) → Fork → (k : ℕ) → (lane : Held) → Spot
 inside records serial fork k lane = Inside (frame_of [] records lane) k fork.count (bodies records serial fork) (frame_of [] records (resumed serial))
+
+-- behind the fork
+abbrev pub beyond : Input → (serial : Held) → Spot
+beyond records serial = Serial (frame_of [] records (resumed serial))
 
 -- the run ends from there, after so much at most
 abbrev pub EndsWithin : Code → (most : ℕ) → Place → Type 0
@@ -80,44 +82,37 @@ turns zero k body s rest = rest s
 turns (suc m) k body s rest = turn (body k) s (turns m (suc k) body (left (body k) s) rest)
 
 -- ---- output
--- the bytes that the sink took, where they are told, those that wait for it, and the count of its faults
-pub record Output : Type 0 where
-  pub taken : Option (List ℕ)
-  pub waits : List ℕ
-  pub faults : ℕ
-
-abbrev pub output_of : (taken : Option (List ℕ)) → Gathered → (faults : ℕ) → Output
-output_of taken gathered faults = record { taken = taken; waits = waiting gathered; faults = faults }
-
--- what was printed so far
-abbrev pub told : Output → Option (List ℕ)
-told x = grown x.taken x.waits
-
-abbrev pub size_of_taken : Option (List ℕ) → ℕ
-size_of_taken None = 0
-size_of_taken (Some bytes) = length bytes
-
--- one run prints what the other still has to print, beside what was printed between, and has its end
-pub record Follows (texts : List (List ℕ)) (r : Run) (x : Output) (rest : Run) (y : Output) : Type 0 where
-  pub whole : grown (told x) (bytes_of texts r.printed) ≡ grown (told y) (bytes_of texts rest.printed)
-  pub ends : r.end ≡ rest.end
-  pub longer : size_of_taken x.taken ≤ size_of_taken y.taken
-  pub faults : y.faults ≡ x.faults
-
--- the sink failed when it had taken a front of what the run prints
-pub record IsCut (texts : List (List ℕ)) (r : Run) (x y : Output) : Type 0 where
-  pub left : List ℕ
-  pub front : grown y.taken left ≡ grown (told x) (bytes_of texts r.printed)
-  pub longer : size_of_taken x.taken ≤ size_of_taken y.taken
-  pub later : x.faults ≤ y.faults
-  pub rose : Rose x.faults y.faults
+-- one run goes on with what the other still has to print, beside what was printed between, and has its end
+abbrev pub Follows : (texts : List (List ℕ)) → Run → Output → (rest : Run) → Output → Type 0
+Follows texts r x rest y = output.Follows (meaning_of texts r) x (meaning_of texts rest) y
 
 -- what a run comes to, a fault, or a failure of the sink
 abbrev pub Comes : (texts : List (List ℕ)) → Run → Output → Result (Unit {0}) Stop → (rest : Run) → Output → Type 0
-Comes texts r x (Ok u) rest y = Follows texts r x rest y
-Comes texts r x (Err (stop.Faulted f)) rest y = Follows texts r x (stopped f) y
-Comes texts r x (Err stop.Sink) rest y = IsCut texts r x y
+Comes texts r x result rest y = output.Comes (meaning_of texts r) x result (meaning_of texts rest) y
 
 -- a piece is printed, and whatever follows
 abbrev pub Says : (texts : List (List ℕ)) → Piece → Output → Result (Unit {0}) Stop → Output → Type 0
 Says texts piece x result y = (rest : Run) → Comes texts (behind (piece ∷ []) rest) x result rest y
+
+-- ---- what is carried out
+-- what tasks work on: the store, and where output goes
+pub record State : Type 0 where
+  pub store : Store
+  pub output : Output
+
+abbrev pub state_of : (taken : Option (List ℕ)) → Shared → (faults : ℕ) → State
+state_of taken shared faults = record { store = memory_of shared.words; output = output_of taken shared.gathered faults }
+
+-- iteration k comes to what follows it
+abbrev pub RunsTurn : Code → Input → Held → Fork → (k : ℕ) → State → Result (Unit {0}) Stop → State → Type 0
+RunsTurn code records serial fork k x result y =
+    (d : Forking code records serial fork.from fork.by) (rest : Run) → Comes code.texts (turn (d.body k) x.store rest) x.output result rest y.output
+
+-- so do all iterations of a fork, whatever follows on the store that they leave
+abbrev pub RunsTurns : Code → Input → Held → Fork → State → Result (Unit {0}) Stop → State → Type 0
+RunsTurns code records serial fork x result y =
+    (d : Forking code records serial fork.from fork.by) (rest : Store → Run) → Comes code.texts (turns fork.count 0 d.body x.store rest) x.output result (rest y.store) y.output
+
+-- a serial task comes to its end
+abbrev pub RunsSerial : Code → Input → Held → State → Result (Unit {0}) Stop → State → Type 0
+RunsSerial code records serial x result y = (d : Doing code records serial) → Comes code.texts (run d.process x.store) x.output result nothing y.output

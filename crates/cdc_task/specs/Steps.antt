@@ -1,9 +1,9 @@
 -- What one instruction of a task owes.
-use Rattle.std.specs.Prelude.{◌≡◌, ℕ, ◌+◌, ◌<◌, ◌≤◌, ℤ, pos, ◌+ℤ◌, ◌*ℤ◌, List, [], get_or, slice_get, MatchOption, IsTrue, Ok, Err}
+use Rattle.std.specs.Prelude.{◌≡◌, ℕ, ◌+◌, ◌<◌, ◌≤◌, ℤ, pos, ◌+ℤ◌, ◌*ℤ◌, List, [], get_or, slice_get, MatchOption}
 use Rattle.cdc_prog.specs.declared.program.Dim.{Dim}
 use Rattle.cdc_prog.specs.declared.program.Kind.TheVariants.{Words}
 use Rattle.cdc_prog.specs.Limits.{limit}
-use Rattle.cdc_prog.specs.Value.{Got, is_value, few}
+use Rattle.cdc_prog.specs.Trips.{HasIndexes}
 use Rattle.cdc_prog.specs.Data.{size_of, dims_at}
 use Rattle.cdc_prog.specs.declared.piece.Piece.{Piece}
 use Rattle.cdc_prog.specs.Input.{Input}
@@ -51,15 +51,6 @@ pub record GoesOn (code : Code) (f : Frame) : Type 0 where
   pub names : MatchOption (slice_get code.steps f.pc) (Unit {0}) (λ i. NamesRight code f.kept.unit i.instr)
 
 -- ---- what a step does
--- the index of each of so many iterations is a value
-abbrev pub HasIndexes : (count : ℕ) → (from by : ℤ) → Type 0
-HasIndexes count from by = (j : ℕ) → j < count → IsTrue (is_value (from +ℤ (pos j *ℤ by)))
-
--- the number of iterations of a DOALL
-abbrev pub counted : Got ℕ → Got ℕ
-counted (Ok n) = few n
-counted (Err kind) = Err kind
-
 -- an act that touches no memory, the answer to it, and what the task holds then
 abbrev pub Quiet : Input → Act Frame → StepEnd → Held → Type 0
 Quiet records (Goes g) Went h = StandsIn records h g

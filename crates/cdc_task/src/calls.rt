@@ -1,34 +1,15 @@
 //! Calls of units, and forks of iterations.
 
-ghost use Rattle.std.specs.Prelude.{◌≡◌, ◌<◌, ◌^◌, ℕ, IfOk};
+ghost use Rattle.std.specs.Prelude.{◌<◌, ◌^◌, ℕ};
 ghost use Rattle.cdc_prog.specs.Input.{Input};
-ghost use Rattle.cdc_prog.specs.Value.{few, trips};
 ghost use Rattle.cdc_code.specs.declared.instr.Instr.TheVariants.{Arg, Call, Return, Fork};
-ghost use Rattle.cdc_task.specs.Steps.{FitsIn, EndsOn, Fits, Ends, FitsAt, EndsAt, HasIndexes, counted, does};
+ghost use Rattle.cdc_task.specs.Steps.{FitsIn, EndsOn, Fits, Ends, FitsAt, EndsAt, does};
 
 use crate::end::StepEnd;
 use crate::loops::moved;
 use crate::task::{Task, start_of};
 use cdc_code::Code;
-use cdc_prog::{FaultKind, Var, turns};
-
-// The number of iterations of a DOALL.
-fn few(count: u128) -> Result<u32, FaultKind>
-    ensures { result ≡ few count }
-{
-    if count > 1 << 20 {
-        return Err(FaultKind::TripTooLarge);
-    }
-    Ok(count as u32)
-}
-
-// The number of iterations of a DOALL, whose indexes are all values.
-fn iterations(from: i64, to: i64, by: i64) -> Result<u32, FaultKind>
-    ensures count { result ≡ counted (trips from to by) }
-    ensures indexes { IfOk result (λ count. HasIndexes count from by) }
-{
-    turns(from, to, by).and_then(few)
-}
+use cdc_prog::{Var, iterations};
 
 impl Task {
     // Adds the object for which a variable stands to the arguments.

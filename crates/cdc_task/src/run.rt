@@ -1,30 +1,28 @@
 //! A program carried out on one memory.
 
-ghost use Rattle.std.specs.Prelude.{◌≡◌, [], true, false, length, ℕ, suc, ◌<◌, pos, ◌+ℤ◌, ◌*ℤ◌, IsTrue, OnOk, replicate};
+ghost use Rattle.std.specs.Prelude.{◌≡◌, [], true, false, length, suc, ◌<◌, pos, ◌+ℤ◌, ◌*ℤ◌, IsTrue, OnOk, replicate};
 ghost use Rattle.cdc_prog.specs.Value.{is_value};
-ghost use Rattle.cdc_prog.specs.InOrder.{Run, run};
 ghost use Rattle.cdc_prog.specs.Alone.{left};
 ghost use Rattle.cdc_task.specs.Course.{Serial, Ends, ends_prop};
-ghost use Rattle.cdc_prog.specs.Data.{Store};
-ghost use Rattle.cdc_task.specs.Held.{frame_of, resumed};
-ghost use Rattle.cdc_task.specs.Steps.{HasIndexes};
+ghost use Rattle.cdc_task.specs.Held.{frame_of};
+ghost use Rattle.cdc_prog.specs.Trips.{HasIndexes};
 ghost use Rattle.cdc_task.specs.Memory.{memory_of};
 ghost use Rattle.cdc_prog.specs.Meaning.{bytes_of_piece};
 ghost use Rattle.cdc_prog.specs.Pieces.{IsThere};
 ghost use Rattle.cdc_prog.specs.Answers.{HasPlainCause};
-ghost use Rattle.cdc_base.specs.Gathered.{waiting};
 ghost use Rattle.cdc_code.specs.Sound.{IsSound};
-ghost use Rattle.cdc_task.specs.Answers.{IsRunOf, IsHandedOn, answer_of};
+ghost use Rattle.cdc_task.specs.Answers.{IsRunOf};
 ghost use Rattle.cdc_task.specs.Laws.{HasArrays};
-ghost use Rattle.cdc_task.specs.Running.{Doing, Forking, before, EndsWithin, IsNearer, turn, turns, nothing, output_of, Comes, Says};
+ghost use Rattle.cdc_prog.specs.Output.{output_of};
+ghost use Rattle.cdc_task.specs.Running.{Doing, Forking, before, beyond, EndsWithin, IsNearer, Says, state_of, RunsTurn, RunsTurns, RunsSerial};
 
 use crate::end::StepEnd;
 use crate::task::Task;
 use crate::words::Words;
-use cdc_base::{Gathered, List, Sink, SinkFault};
+use cdc_base::{Gathered, List, Sink};
 use cdc_code::Code;
 use cdc_input::InputRecords;
-use cdc_prog::{Fault, Piece, Plain, put_piece};
+use cdc_prog::{Fault, Piece, Plain, Stop, answer, hand_on, index_of, put_piece};
 use std::alloc::Global;
 
 // Code, and records on which its run on one memory ends.
@@ -48,26 +46,6 @@ struct Fork {
     count: u32,
     from: i64,
     by: i64,
-}
-
-/// Why a run stops early.
-#[derive(Clone, Copy)]
-pub enum Stop {
-    /// A fault of the program.
-    Faulted(Fault),
-    /// The sink failed.
-    Sink,
-}
-
-impl From<SinkFault> for Stop {
-    ghost use Rattle.std.specs.Prelude.{◌≡◌};
-    ghost use Rattle.cdc_task.specs.declared.run.Stop.TheVariants.{Sink as SinkFailed};
-
-    ghost from_gives = { λ _ e. e ≡ SinkFailed };
-
-    fn from(_fault: SinkFault) -> Stop {
-        Stop::Sink
-    }
 }
 
 // Whether a piece has bytes: a text has, where it is there.
@@ -97,29 +75,6 @@ fn say<K: Sink>(
     Ok(())
 }
 
-// How far iteration k is from the first.
-fn distance(by: i64, k: u32) -> i128
-    ensures { result ≡ pos k *ℤ by }
-{
-    k as i128 * by as i128
-}
-
-// The index of iteration k.
-fn index(from: i64, by: i64, k: u32) -> i64
-    requires { IsTrue (is_value (from +ℤ (pos k *ℤ by))) }
-    ensures { result ≡ from +ℤ (pos k *ℤ by) }
-{
-    narrow(from as i128 + distance(by, k))
-}
-
-// A value in 64 bits.
-fn narrow(value: i128) -> i64
-    requires { IsTrue (is_value value) }
-    ensures { result ≡ value }
-{
-    value as i64
-}
-
 // An iteration from its beginning to its end.
 fn run_turn<K: Sink>(
     whole: &Whole,
@@ -135,12 +90,12 @@ fn run_turn<K: Sink>(
     requires index { IsTrue (is_value (fork.from +ℤ (pos k *ℤ fork.by))) }
     requires forking { Forking whole.now.code.now whole.now.records.now.records serial.now fork.from fork.by }
     requires ends { EndsWithin whole.now.code.now whole.now.ends.0 (before whole.now.records.now.records serial.now fork k, memory_of shared.old.words) }
-    ensures turn { (d : Forking whole.now.code.now whole.now.records.now.records serial.now fork.from fork.by) (rest : Run) → Comes whole.now.code.now.texts (turn (d.body k) (memory_of shared.old.words) rest) (output_of (K.taken out.old) shared.old.gathered (K.faults out.old)) result rest (output_of (K.taken out.new) shared.new.gathered (K.faults out.new)) }
+    ensures turn { RunsTurn whole.now.code.now whole.now.records.now.records serial.now fork k (state_of (K.taken out.old) shared.old (K.faults out.old)) result (state_of (K.taken out.new) shared.new (K.faults out.new)) }
     ensures memory { (d : Forking whole.now.code.now whole.now.records.now.records serial.now fork.from fork.by) → OnOk result (memory_of shared.new.words ≡ left (d.body k) (memory_of shared.old.words)) }
     ensures nearer { OnOk result (IsNearer whole.now.code.now (before whole.now.records.now.records serial.now fork k, memory_of shared.old.words) (before whole.now.records.now.records serial.now fork (suc k), memory_of shared.new.words)) }
     ensures words { length shared.new.words.cells.items ≡ length shared.old.words.cells.items }
 {
-    lane.iteration(serial, index(fork.from, fork.by, k));
+    lane.iteration(serial, index_of(fork.from, fork.by, k));
     let texts = whole.code.texts.as_slice();
     loop {
         match lane.step(whole.code, whole.records, &mut shared.words) {
@@ -165,8 +120,8 @@ fn run_turns<K: Sink>(
     requires indexes { HasIndexes fork.count fork.from fork.by }
     requires forking { Forking whole.now.code.now whole.now.records.now.records serial.now fork.from fork.by }
     requires ends { EndsWithin whole.now.code.now whole.now.ends.0 (before whole.now.records.now.records serial.now fork 0, memory_of shared.old.words) }
-    ensures turns { (d : Forking whole.now.code.now whole.now.records.now.records serial.now fork.from fork.by) (rest : Store → Run) → Comes whole.now.code.now.texts (turns fork.count 0 d.body (memory_of shared.old.words) rest) (output_of (K.taken out.old) shared.old.gathered (K.faults out.old)) result (rest (memory_of shared.new.words)) (output_of (K.taken out.new) shared.new.gathered (K.faults out.new)) }
-    ensures nearer { OnOk result (IsNearer whole.now.code.now (before whole.now.records.now.records serial.now fork 0, memory_of shared.old.words) (Serial (frame_of [] whole.now.records.now.records (resumed serial.now)), memory_of shared.new.words)) }
+    ensures turns { RunsTurns whole.now.code.now whole.now.records.now.records serial.now fork (state_of (K.taken out.old) shared.old (K.faults out.old)) result (state_of (K.taken out.new) shared.new (K.faults out.new)) }
+    ensures nearer { OnOk result (IsNearer whole.now.code.now (before whole.now.records.now.records serial.now fork 0, memory_of shared.old.words) (beyond whole.now.records.now.records serial.now, memory_of shared.new.words)) }
     ensures words { length shared.new.words.cells.items ≡ length shared.old.words.cells.items }
 {
     for k in 0..fork.count {
@@ -186,7 +141,7 @@ fn run_serial<K: Sink>(
     requires words { length shared.old.words.cells.items ≡ whole.now.code.now.words }
     requires doing { Doing whole.now.code.now whole.now.records.now.records serial.old }
     requires ends { EndsWithin whole.now.code.now whole.now.ends.0 (Serial (frame_of [] whole.now.records.now.records serial.old), memory_of shared.old.words) }
-    ensures { (d : Doing whole.now.code.now whole.now.records.now.records serial.old) → Comes whole.now.code.now.texts (run d.process (memory_of shared.old.words)) (output_of (K.taken out.old) shared.old.gathered (K.faults out.old)) result nothing (output_of (K.taken out.new) shared.new.gathered (K.faults out.new)) }
+    ensures { RunsSerial whole.now.code.now whole.now.records.now.records serial.old (state_of (K.taken out.old) shared.old (K.faults out.old)) result (state_of (K.taken out.new) shared.new (K.faults out.new)) }
 {
     let texts = whole.code.texts.as_slice();
     loop {
@@ -205,28 +160,6 @@ fn run_serial<K: Sink>(
             StepEnd::Faulted(kind, line) => return Err(Stop::Faulted(Fault { kind, line })),
             StepEnd::Joined | StepEnd::Halted => return Ok(()),
         }
-    }
-}
-
-// Hands what still waits to the sink, where that has not failed before.
-fn hand_on<K: Sink>(end: Result<(), Stop>, gathered: &mut Gathered, out: &mut K) -> Result<(), Stop>
-    ensures { IsHandedOn end (waiting gathered.old) (K.taken out.old) (K.faults out.old) result (K.taken out.new) (K.faults out.new) }
-{
-    if let Err(Stop::Sink) = end {
-        return end;
-    }
-    gathered.flush(out)?;
-    end
-}
-
-// The answer to an end.
-fn answer(end: Result<(), Stop>) -> Plain
-    ensures { result ≡ answer_of end }
-{
-    match end {
-        Ok(()) => Plain::Done,
-        Err(Stop::Faulted(fault)) => Plain::Fault(fault.kind, fault.line),
-        Err(Stop::Sink) => Plain::SinkFault,
     }
 }
 

@@ -2,4 +2,4 @@ use Rattle.cdc_prog.proofs.Serial as lemma
 use Rattle.cdc_prog.proofs.laws.serial.Goals as goal
 
 pub returns : goal.returns
-returns c = record { stores_alone = lemma.serial_stores_alone; unaliased = lemma.serial_unaliased; apart = lemma.serial_apart; stores = lemma.may_store }
+returns c = record { stores_alone = lemma.serial_stores_alone; apart = lemma.serial_apart }

@@ -2,10 +2,10 @@ use Rattle.std.proofs.Common.{sym, subst}
 use Rattle.cdc_prog.specs.Answers.{IsRun, HasPlainCause}
 use Rattle.cdc_prog.specs.InOrder.{run}
 use Rattle.cdc_prog.specs.Meaning.{Meaning, meaning}
+use Rattle.cdc_prog.specs.Output.{output_of, meaning_of}
 use Rattle.cdc_prog.specs.Units.{process_of}
+use Rattle.cdc_prog.proofs.Answers.{all_zeros, is_run, has_cause}
 use Rattle.cdc_task.specs.Memory.{memory_of}
-use Rattle.cdc_task.specs.Running.{output_of}
-use Rattle.cdc_task.proofs.Answers.{all_zeros, is_run, has_cause}
 use Rattle.cdc_task.proofs.Ends.{ends}
 use Rattle.cdc_task.proofs.Starts.{starts_doing, starts_within, meant}
 use Rattle.cdc_task.proofs.run.run_on.Goals as goal
@@ -38,7 +38,7 @@ returns-clause-run g c =
     let risen = g.K.Sink.faults c.hand_on.new.out in
     let d = starts_doing code records c.serial-serial.result (c.serial-serial.ensures records) sound c.requires.arrays in
     let store = all_zeros c.args.cells.items code.words c.requires.zeros in
-    let is = is_run code.texts (run q s) x y c.hand_on.result now risen c.new.ensures c.run_serial-end.result (c.run_serial-end.ensures d) c.hand_on.ensures in (
+    let is = is_run (meaning_of code.texts (run q s)) x y c.hand_on.result now risen c.new.ensures c.run_serial-end.result (c.run_serial-end.ensures d) c.hand_on.ensures in (
       meaning sound.program records,
       sound.runs records,
       subst (λ (m : Meaning). IsRun m x.taken now c.answer.result) (meant code sound records s store)
@@ -59,4 +59,4 @@ returns-clause-cause g c =
     let risen = g.K.Sink.faults c.hand_on.new.out in
     let d = starts_doing code records c.serial-serial.result (c.serial-serial.ensures records) sound c.requires.arrays in
     subst (HasPlainCause x.faults risen) (sym c.answer.ensures)
-    (has_cause code.texts (run q s) x y c.hand_on.result now risen c.new.ensures c.run_serial-end.result (c.run_serial-end.ensures d) c.hand_on.ensures)
+    (has_cause (meaning_of code.texts (run q s)) x y c.hand_on.result now risen c.new.ensures c.run_serial-end.result (c.run_serial-end.ensures d) c.hand_on.ensures)

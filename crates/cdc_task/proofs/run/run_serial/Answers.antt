@@ -8,7 +8,8 @@ use Rattle.cdc_prog.specs.InOrder.{run}
 use Rattle.cdc_task.specs.Held.{Held, frame_of}
 use Rattle.cdc_task.specs.Memory.{memory_of}
 use Rattle.cdc_task.specs.Course.{Serial, remaining}
-use Rattle.cdc_task.specs.Running.{output_of, nothing, turns, EndsWithin, Says, Comes}
+use Rattle.cdc_prog.specs.Output.{output_of}
+use Rattle.cdc_task.specs.Running.{nothing, turns, EndsWithin, Says, Comes}
 use Rattle.cdc_task.specs.Steps.{Stepped}
 use Rattle.cdc_task.proofs.Cells.{plain}
 use Rattle.cdc_task.proofs.Serial as serial

@@ -3,7 +3,8 @@ use Rattle.cdc_task.specs.contracts.words.WordsPort.TheImpl.{ghosts}
 use Rattle.cdc_task.specs.Held.{frame_of}
 use Rattle.cdc_task.specs.Course.{Serial, remaining}
 use Rattle.cdc_task.specs.Memory.{memory_of}
-use Rattle.cdc_task.specs.Running.{EndsWithin, output_of}
+use Rattle.cdc_prog.specs.Output.{output_of}
+use Rattle.cdc_task.specs.Running.{EndsWithin}
 use Rattle.cdc_task.proofs.Cells.{plain}
 use Rattle.cdc_task.proofs.Serial.{Midst}
 use Rattle.cdc_task.proofs.run.run_serial.Given as goal

@@ -3,7 +3,8 @@ use Rattle.std.proofs.lemmas.Result.{err_from_is_err_and}
 use Rattle.cdc_task.specs.contracts.words.WordsPort.TheImpl.{ghosts}
 use Rattle.cdc_task.specs.Memory.{memory_of}
 use Rattle.cdc_task.specs.Held.{frame_of, begun}
-use Rattle.cdc_task.specs.Running.{output_of, Says, Comes, turn}
+use Rattle.cdc_prog.specs.Output.{output_of}
+use Rattle.cdc_task.specs.Running.{Says, Comes, turn}
 use Rattle.cdc_task.proofs.Cells.{plain}
 use Rattle.cdc_task.proofs.Turns as turns
 use Rattle.cdc_task.proofs.Turns.{doing_goes_on}
@@ -20,9 +21,9 @@ loop-piece-init g c =
     let x = output_of (g.K.Sink.taken c.args.out.now) c.args.shared.now.gathered (g.K.Sink.faults c.args.out.now) in
     let from : to_z w64 (of_z w64 fork.from) ≡ fork.from = search rules in
     let by : to_z w64 (of_z w64 fork.by) ≡ fork.by = search rules in
-    let index : to_z w64 (of_z w64 c.index.result) ≡ c.index.result = search rules in
+    let index : to_z w64 (of_z w64 c.index_of.result) ≡ c.index_of.result = search rules in
     let is : (path : List ℕ) → frame_of path records h ≡ begun path records serial (fork.from +ℤ (pos k *ℤ fork.by)) =
-    λ path. c.iteration.ensures path records ∙ ap (begun path records serial) (index ∙ c.index.ensures) ∙ ap₂ (λ (a b : ℤ). begun path records serial (a +ℤ (pos k *ℤ b))) from by in
+    λ path. c.iteration.ensures path records ∙ ap (begun path records serial) (index ∙ c.index_of.ensures) ∙ ap₂ (λ (a b : ℤ). begun path records serial (a +ℤ (pos k *ℤ b))) from by in
     record {
       words = refl;
       midst = turns.begins code records ghosts memory_of plain serial fork k h (memory_of c.args.shared.now.words) x is c.requires.there c.requires.forking;

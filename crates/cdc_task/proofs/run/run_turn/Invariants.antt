@@ -2,7 +2,8 @@ use Rattle.std.proofs.Common.{◌≡◌, length}
 use Rattle.cdc_task.specs.contracts.words.WordsPort.TheImpl.{ghosts}
 use Rattle.cdc_task.specs.Course.{remaining}
 use Rattle.cdc_task.specs.Memory.{memory_of}
-use Rattle.cdc_task.specs.Running.{inside, EndsWithin, output_of}
+use Rattle.cdc_prog.specs.Output.{output_of}
+use Rattle.cdc_task.specs.Running.{inside, EndsWithin}
 use Rattle.cdc_task.proofs.Cells.{plain}
 use Rattle.cdc_task.proofs.Turns.{Midst}
 use Rattle.cdc_task.proofs.run.run_turn.Given as goal

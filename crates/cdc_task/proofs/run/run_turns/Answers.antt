@@ -1,7 +1,8 @@
 use Rattle.std.proofs.Common.{suc, ◌+◌, ◌≡◌, Err, ◌∙◌, sym, subst, arith}
 use Rattle.std.proofs.lemmas.Result.{err_from_is_err_and}
 use Rattle.cdc_task.specs.Memory.{memory_of}
-use Rattle.cdc_task.specs.Running.{output_of, Comes, turn, turns}
+use Rattle.cdc_prog.specs.Output.{output_of}
+use Rattle.cdc_task.specs.Running.{Comes, turn, turns}
 use Rattle.cdc_task.proofs.Forks as forks
 use Rattle.cdc_task.proofs.run.run_turns.Goals as goal
 

@@ -1,6 +1,6 @@
 use Rattle.std.proofs.Common.{◌≡◌, length}
 use Rattle.cdc_task.specs.Memory.{memory_of}
-use Rattle.cdc_task.specs.Running.{output_of}
+use Rattle.cdc_prog.specs.Output.{output_of}
 use Rattle.cdc_task.proofs.Forks.{Between}
 use Rattle.cdc_task.proofs.run.run_turns.Given as goal
 

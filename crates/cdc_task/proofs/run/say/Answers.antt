@@ -1,6 +1,7 @@
 use Rattle.std.proofs.Common.{Err, ap, ◌∙◌, sym, subst}
 use Rattle.std.proofs.lemmas.Result.{err_from_is_err_and}
-use Rattle.cdc_task.specs.Running.{output_of, Says}
+use Rattle.cdc_prog.specs.Output.{output_of}
+use Rattle.cdc_task.specs.Running.{Says}
 use Rattle.cdc_task.proofs.Output.{said, cut_said}
 use Rattle.cdc_task.proofs.run.say.Goals as goal
 

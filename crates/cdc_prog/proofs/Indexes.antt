@@ -9,7 +9,7 @@ use Rattle.std.proofs.lemmas.Bool.{ltb-true}
 use Rattle.cdc_num.specs.Exact.{at_least_zero}
 use Rattle.cdc_prog.specs.declared.program.FaultKind.TheVariants.{TripTooLarge}
 use Rattle.cdc_prog.specs.Value.{Got, is_value, trips, few}
-use Rattle.cdc_task.specs.Steps.{HasIndexes, counted}
+use Rattle.cdc_prog.specs.Trips.{HasIndexes, few_of}
 
 -- what lies between the first and the last value is a value
 value_within : (z : ℤ) → pos 0 ≤ℤ (z +ℤ pos (2 ^ 63)) → z <ℤ pos (2 ^ 63) → IsTrue (is_value z)
@@ -57,11 +57,11 @@ few_is n count e = go (nat_lt (2 ^ 20) n) e
     go true e = cc
     go false e = cc
 
-pub counted_indexes : (m1 m2 m3 : ℤ) (result : Got ℕ) → FitsSigned w64 m1 → FitsSigned w64 m2 → result ≡ counted (trips m1 m2 m3) → IfOk result (λ count. HasIndexes count m1 m3)
+pub counted_indexes : (m1 m2 m3 : ℤ) (result : Got ℕ) → FitsSigned w64 m1 → FitsSigned w64 m2 → result ≡ few_of (trips m1 m2 m3) → IfOk result (λ count. HasIndexes count m1 m3)
 counted_indexes m1 m2 m3 (Err kind) f g e = tt
 counted_indexes m1 m2 m3 (Ok count) f g e = go (trips m1 m2 m3) refl e
   where
-    go : (t : Got ℕ) → trips m1 m2 m3 ≡ t → Ok count ≡ counted t → HasIndexes count m1 m3
+    go : (t : Got ℕ) → trips m1 m2 m3 ≡ t → Ok count ≡ few_of t → HasIndexes count m1 m3
     go (Ok n) q e = λ j lt. indexes m1 m2 m3 n f g q j (subst (λ m. j < m) (few_is n count (sym e)) lt)
     go (Err kind) q e = cc
 
