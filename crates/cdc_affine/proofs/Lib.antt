@@ -1,4 +1,6 @@
+pub mod Bounds
 pub mod Merging
 pub mod Parts
+pub mod Steps
 pub mod Turns
 pub mod Worth

@@ -1,9 +1,10 @@
 // The ranges of loops with constant controls.
-ghost use Rattle.std.specs.Prelude.{◌≡◌, ◌≤◌, ◌<◌, ◌^◌, ◌*◌, ◌-◌, pos, ◌+ℤ◌, ◌*ℤ◌, ◌≤ℤ◌, ◌<ℤ◌, nat_abs, Ok};
+ghost use Rattle.std.specs.Prelude.{◌≡◌, ◌≤◌, ◌<◌, ◌^◌, ◌*◌, ◌-◌, pos, ◌+ℤ◌, ◌*ℤ◌, ◌≤ℤ◌, ◌<ℤ◌, nat_abs, Ok, IfSome};
 ghost use Rattle.std.specs.Int.RustNames.{FitsSigned};
 ghost use Rattle.cdc_prog.specs.Translation.{control_of};
 ghost use Rattle.cdc_prog.specs.Value.{trips};
 ghost use Rattle.cdc_prog.specs.Dependence.{spread, spread_of, range_of};
+ghost use Rattle.cdc_prog.specs.Sections.{IsStepped};
 
 use crate::constants::constant;
 use cdc_prog::{Control, Range, turns};
@@ -75,9 +76,10 @@ fn range_from(m1: i64, m2: i64, m3: i64) -> Option<Range>
     }
 }
 
-/// The range of a loop whose controls are constant.
+/// The range of a loop whose controls are constant, which ends after whole steps.
 pub fn range_of(k: &Control) -> Option<Range>
-    ensures { result ≡ range_of (control_of k.now) }
+    ensures value { result ≡ range_of (control_of k.now) }
+    ensures stepped { IfSome result IsStepped }
 {
     let m1 = constant(&k.from)?;
     let m2 = constant(&k.to)?;

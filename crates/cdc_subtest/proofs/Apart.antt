@@ -17,13 +17,14 @@ use Rattle.cdc_prog.specs.declared.affine.Scope.{Scope}
 use Rattle.cdc_prog.specs.declared.affine.Term.{Term}
 use Rattle.cdc_prog.specs.declared.affine.Affine.{Affine}
 use Rattle.cdc_prog.specs.Affine.{same_var, is_in, is_index, with_some, total, worth, Speaks}
-use Rattle.cdc_prog.specs.Iterations.{LiesIn}
+use Rattle.cdc_prog.specs.Iterations.{InRanges}
 use Rattle.cdc_num.specs.Divisors.{gcd, divides}
 use Rattle.cdc_num.specs.Intervals.{Between, times, plus, minus, leaves_out_zero, lies_within}
-use Rattle.cdc_num.proofs.Intervals.{times_has, minus_has, leaves_out, or_true}
+use Rattle.cdc_num.proofs.Intervals.{minus_has, leaves_out, or_true}
 use Rattle.cdc_prog.specs.Dependence.{moving, still, same_terms, common, range_in, span, holds, is_empty, own, is_own, own_times, others, same_number, by_steps, by_constant, by_gcd, by_range, by_stride, tells_apart}
 use Rattle.cdc_num.proofs.Whole.{mul-add, add-mul, sub-mul, mul-mul}
-use Rattle.cdc_affine.proofs.Worth.{some_of, and_true}
+use Rattle.cdc_affine.proofs.Bounds.{span_has}
+use Rattle.cdc_affine.proofs.Worth.{and_true}
 use Rattle.cdc_num.proofs.Divisors.{gcd_is, quotient_of, divides_of, divides_true}
 
 -- ---- tests
@@ -111,22 +112,6 @@ common_divides ρ d (t ∷ ts) h =
     )
 
 -- ---- intervals
-abbrev pub InRanges : List Index → (Var → ℤ) → Type 0
-InRanges is ρ = (v : Var) (r : Range) → range_in is v ≡ Some r → LiesIn r (ρ v)
-
-span_has : (is : List Index) (ρ : Var → ℤ) → InRanges is ρ → (ts : List Term) (i : Interval) → span is ts ≡ Some i → Between i (total ρ ts)
-span_has is ρ h [] i e =
-    let same : record { lo = pos 0; hi = pos 0 } ≡ i = cc in
-    subst (λ i. Between i (pos 0)) same (record { low = omega (arith, ints); high = omega (arith, ints) })
-span_has is ρ h (t ∷ ts) i e =
-    let p = some_of (range_in is t.var) (λ r. with_some (span is ts) (λ j. Some (plus (times t.times r.lo r.hi) j))) i e in
-    let q = some_of (span is ts) (λ j. Some (plus (times t.times p.0.lo p.0.hi) j)) i p.2 in
-    let same : plus (times t.times p.0.lo p.0.hi) q.0 ≡ i = let k = q.2 in cc in
-    let r = h t.var p.0 p.1 in
-    let one = times_has t.times p.0.lo p.0.hi (ρ t.var) r.low r.high in
-    let rest = span_has is ρ h ts q.0 q.1 in
-    subst (λ i. Between i (t.times *ℤ ρ t.var +ℤ total ρ ts)) same (record { low = omega (arith, ints); high = omega (arith, ints) })
-
 abs_below : (m : ℕ) (x : ℤ) → neg_ℤ (pos m) <ℤ x → x <ℤ pos m → nat_abs x < m
 abs_below m (pos n) l h = omega (arith, ints)
 abs_below m (negsuc n) l h = omega (arith, ints)

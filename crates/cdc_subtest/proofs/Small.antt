@@ -1,8 +1,6 @@
 -- Parts of small sums of terms are small and few.
-use Rattle.std.proofs.Common.{◌≡◌, ℕ, suc, ◌*◌, ◌^◌, ◌≤◌, Bool, true, false, if◌then◌else◌, List, [], ◌∷◌, length, Option, Some, None, refl, arith}
-use Rattle.std.specs.Prelude.{◌&&◌, IfSome}
-use Rattle.cdc_num.specs.declared.interval.Interval.{Interval}
-use Rattle.cdc_num.specs.Intervals.{IsBelow}
+use Rattle.std.proofs.Common.{◌≡◌, ℕ, suc, ◌≤◌, Bool, true, false, if◌then◌else◌, List, [], ◌∷◌, length, refl, arith}
+use Rattle.std.specs.Prelude.{◌&&◌}
 use Rattle.cdc_prog.specs.declared.affine.Scope.{Scope}
 use Rattle.cdc_prog.specs.declared.affine.Term.{Term}
 use Rattle.cdc_prog.specs.Affine.{is_index, is_small, are_small}
@@ -48,8 +46,3 @@ others_few (t ∷ ts) = go (is_own t) (others_few ts)
     go : (test : Bool) → length (others ts) ≤ length ts → length (if test then others ts else t ∷ others ts) ≤ suc (length ts)
     go true h = omega (arith, h)
     go false h = omega (arith, h)
-
--- the interval of at most 2^30 terms
-pub wide_of : (o : Option Interval) (n : ℕ) → n ≤ 2 ^ 30 → IfSome o (IsBelow (n * 2 ^ 94)) → IfSome o (IsBelow (2 ^ 124))
-wide_of None n le h = tt
-wide_of (Some i) n le h = record { low = omega (arith, h.low); high = omega (arith, h.high) }

@@ -17,7 +17,7 @@ use Rattle.cdc_prog.specs.declared.affine.Range.{Range}
 use Rattle.cdc_prog.specs.declared.affine.Index.{Index}
 use Rattle.cdc_prog.specs.declared.affine.Scope.{Scope}
 use Rattle.cdc_prog.specs.Affine.{same_var, index_in, is_in, with_some, constant, form}
-use Rattle.cdc_prog.specs.Iterations.{Each, held, Value, Values}
+use Rattle.cdc_prog.specs.Iterations.{Each, held, Value, Values, InRanges}
 use Rattle.cdc_prog.specs.Dependence.{range_of, Spot, spots}
 use Rattle.cdc_prog.specs.Iterations.{LiesIn, Lies, IsIn, with_slot, MaySet, IsFixed, IsBody, iteration, IsParallel}
 use Rattle.cdc_subtest.specs.Reached.{IsElementWord, IsScalarWord, Fits, Reaches, IsWritten, IsRead}
@@ -28,7 +28,7 @@ use Rattle.cdc_subtest.proofs.Moments.{in_turn, range_lies, KeptBy, stmt_fine}
 use Rattle.cdc_prog.proofs.Alone.{put_other}
 use Rattle.cdc_subtest.proofs.Words.{same_object, no_scalar}
 use Rattle.cdc_num.proofs.Intervals.{or_true}
-use Rattle.cdc_subtest.proofs.Apart.{same_var_of, holds_of, InRanges, apart_right}
+use Rattle.cdc_subtest.proofs.Apart.{same_var_of, holds_of, apart_right}
 
 -- ---- what is said of each access holds of the accesses
 written_of : (R W : ℕ → ℕ → Type 0) (p : Process) (s : Store) (w : ℕ) → Each R W p s → Writes (accesses p s) w → (site : ℕ) × W site w

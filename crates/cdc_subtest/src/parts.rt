@@ -1,12 +1,11 @@
 // Parts of forms.
-ghost use Rattle.std.specs.Prelude.{◌≡◌, ◌≤◌, ◌<◌, ◌^◌, ◌*◌, ◌+◌, ◌+ℤ◌, ◌-ℤ◌, ◌*ℤ◌, true, length, nat_abs, IfOk, IfSome};
-ghost use Rattle.cdc_prog.specs.Affine.{is_small, are_small};
-ghost use Rattle.cdc_num.specs.Intervals.{IsBelow, times};
-ghost use Rattle.cdc_prog.specs.Dependence.{moving, still, same_number, same_terms, common, range_in, span, is_own, own_times, others};
+ghost use Rattle.std.specs.Prelude.{◌≡◌, ◌≤◌, ◌<◌, ◌^◌, ◌*◌, ◌+◌, ◌+ℤ◌, ◌-ℤ◌, ◌*ℤ◌, true, length, nat_abs, IfOk};
+ghost use Rattle.cdc_prog.specs.Affine.{are_small};
+ghost use Rattle.cdc_prog.specs.Dependence.{moving, still, same_number, same_terms, common, is_own, own_times, others};
 
-use cdc_affine::{Index, Range, Scope, Term, add, index_in, is_index, same_var};
+use cdc_affine::{Scope, Term, add, is_index, same_var};
 use cdc_base::{List, NoMemory};
-use cdc_num::{Interval, gcd};
+use cdc_num::gcd;
 use cdc_prog::Var;
 use std::alloc::Global;
 
@@ -89,52 +88,6 @@ pub fn common(terms: &[Term]) -> u128
             gcd(t.times.unsigned_abs() as u128, d)
         }
     }
-}
-
-fn range_in(indexes: &[Index], v: Var) -> Option<Range>
-    ensures { result ≡ range_in indexes.now v }
-{
-    match index_in(indexes, v) {
-        Some(i) => i.range,
-        None => None,
-    }
-}
-
-// The interval of a term.
-fn stretch(a: i64, r: Range) -> Interval
-    requires { is_small a ≡ true }
-    ensures value { result ≡ times a r.lo r.hi }
-    ensures bound { IsBelow (2 ^ 94) result }
-{
-    Interval::times(a, r.lo, r.hi)
-}
-
-/// The interval of a sum of terms, where each index has a range.
-fn span(indexes: &[Index], terms: &[Term]) -> Option<Interval>
-    requires small { are_small terms.now ≡ true }
-    requires few { length terms.now ≤ 2 ^ 30 }
-    ensures value { result ≡ span indexes.now terms.now }
-    ensures bound { IfSome result (IsBelow (length terms.now * 2 ^ 94)) }
-{
-    match terms {
-        [] => Some(Interval { lo: 0, hi: 0 }),
-        [t, rest @ ..] => {
-            let r = range_in(indexes, t.var)?;
-            let i = span(indexes, rest)?;
-            Some(stretch(t.times, r).plus(i))
-        }
-    }
-}
-
-/// The same for few terms, which an interval of 128 bits holds.
-#[tactic(auto, using(crate::proofs::Small::wide_of))]
-pub fn wide_span(indexes: &[Index], terms: &[Term]) -> Option<Interval>
-    requires small { are_small terms.now ≡ true }
-    requires few { length terms.now ≤ 2 ^ 30 }
-    ensures value { result ≡ span indexes.now terms.now }
-    ensures bound { IfSome result (IsBelow (2 ^ 124)) }
-{
-    span(indexes, terms)
 }
 
 /// The coefficient of the index of the DOALL.

@@ -4,9 +4,9 @@ ghost use Rattle.cdc_prog.specs.Affine.{IsSmall};
 ghost use Rattle.cdc_prog.specs.Translation.{expr_of, exprs_of};
 ghost use Rattle.cdc_subtest.specs.Sketches.{glance, glimpse, glimpses, glance_of, glance_in};
 
-use crate::parts::{common, moving, others, own_times, still, wide_span};
+use crate::parts::{common, moving, others, own_times, still};
 use crate::sketch::Sketch;
-use cdc_affine::{Affine, Scope, form_of};
+use cdc_affine::{Affine, Scope, form_of, wide_span};
 use cdc_base::{List, NoMemory};
 use cdc_prog::Expr;
 use std::alloc::Global;
