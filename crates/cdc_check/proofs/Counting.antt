@@ -1,442 +1,342 @@
--- Inside a DO nothing stores in its variable, where no change of it is found in the text.
-use Rattle.std.proofs.Common.{◌≡◌, inl, inr, ℕ, zero, suc, ◌+◌, ◌-◌, Bool, true, false, List, [], ◌∷◌, ◌++◌, map, length, take, Option, Some, None, refl, ap, sym, subst, ◌∙◌, arith, append_assoc}
-use Rattle.std.proofs.lemmas.List.{append-nil, length-append}
-use Rattle.std.proofs.lemmas.Slice.Eq.{bytes_eq-Decides}
-use Rattle.std.specs.Prelude.{if◌then◌else◌, ◌&&◌}
-use Rattle.std.specs.Str.{bytes_eq}
+-- Inside a DO nothing stores in its variable, and a DOALL stores in its own slots, but not in its index, and in array elements, where no fault of it is found in the text.
+use Rattle.std.proofs.Common.{◌≡◌, inl, inr, ℕ, ◌<◌, ◌≤◌, Bool, true, false, List, [], ◌∷◌, ◌++◌, length, Option, Some, None, refl, ap, sym, subst, ◌∙◌, arith}
+use Rattle.std.specs.Prelude.{not, ◌&&◌, nat_eq}
 use Rattle.std.specs.List.{Any}
-use Rattle.cdc_base.specs.declared.place.Place.{Place}
 use Rattle.cdc_prog.specs.declared.expr.Var.{Var}
+use Rattle.cdc_prog.specs.declared.expr.Var.TheVariants.{Object, Dummy, Slot}
 use Rattle.cdc_prog.specs.declared.program.Dim.{Dim}
 use Rattle.cdc_prog.specs.Plain as plain
-use Rattle.cdc_prog.specs.Translation.{chain, in_arms}
+use Rattle.cdc_prog.specs.Numbered.{calls_in}
+use Rattle.cdc_prog.specs.Resolved.{IsVar}
+use Rattle.cdc_prog.specs.Translation.{listed, chain, in_arms}
 use Rattle.cdc_prog.specs.Uses.{Stores}
-use Rattle.cdc_prog.specs.Premises.{DosKeepVariables}
+use Rattle.cdc_prog.specs.Premises.{IsOwn, StoresInOwn, DoallsStoreAlone, DosKeepVariables}
 use Rattle.cdc_prog.proofs.Lists.{any_none, any_first}
-use Rattle.cdc_prog.proofs.Serial.{may_store}
+use Rattle.cdc_prog.proofs.Serial.{uncalled_stores}
 use Rattle.cdc_tree.specs.declared.tree.Named.{Named}
-use Rattle.cdc_tree.specs.Plain.{Plain, PNumber, PName, PApply, PParen, PPlus, PUn, PBin, PKnown, Plains, PEnd, PMore, plains}
-use Rattle.cdc_tree.specs.Forms.{PBound, PSpot, PLoop, PShown, PText, PValue, PForm, FSubroutine, FInteger, FParameter, FAssign, FIfThen, FElseIf, FLogicalIf, FDo, FDoall, FCall, FPrint, FRead}
-use Rattle.cdc_tree.specs.Units.{PNode, NPlain, NIf, NElse, NLoop, PBody, Empty, More, PBranches, BNone, BMore, node_out, out, branches_out}
+use Rattle.cdc_tree.specs.Plain.{plains}
+use Rattle.cdc_tree.specs.Forms.{PSpot, PLoop, PForm, FAssign, FLogicalIf, FDo, FDoall, FPrint, FRead}
+use Rattle.cdc_tree.specs.Units.{PNode, NPlain, NIf, NElse, NLoop, PBody, Empty, More, PBranches, BNone, BMore}
+use Rattle.cdc_tree.proofs.Counts.{count_plains}
 use Rattle.cdc_names.specs.declared.name_use.Role.{Role}
 use Rattle.cdc_names.specs.declared.name_use.Role.TheVariants as role
 use Rattle.cdc_names.specs.declared.scope.Sort.{Sort}
-use Rattle.cdc_names.specs.DoVariables.{opened_as, opened_after, changes, is_counted, spoiled, spoiled_from}
-use Rattle.cdc_names.specs.Places.{sooner, joined}
-use Rattle.cdc_names.specs.Shapes.{is_read, is_misused}
+use Rattle.cdc_names.specs.DoVariables.{opened_as, changes, is_counted, spoiled}
+use Rattle.cdc_names.specs.Privates.{in_doall, is_private_in, sets_scalar, shared}
+use Rattle.cdc_names.specs.Shapes.{may_be_whole, is_read, is_misused}
 use Rattle.cdc_names.specs.Table.{found}
 use Rattle.cdc_names.specs.Used.{Used, used}
-use Rattle.cdc_names.specs.Uses.{tree_uses, trees_uses, optional_uses, spot_uses, spots_uses, shown_uses, bound_uses, item_uses, define_uses, control_uses, names_uses, form_uses, statement_uses, closing_uses, node_uses, body_uses, branches_uses}
+use Rattle.cdc_names.specs.Uses.{tree_uses, spot_uses, spots_uses, form_uses, statement_uses, closing_uses, node_uses, body_uses, branches_uses}
 use Rattle.cdc_check.specs.declared.meaning.Meaning.{Meaning}
 use Rattle.cdc_check.specs.declared.meaning.Meaning.TheVariants as meaning
 use Rattle.cdc_check.specs.declared.progress.Progress.{Progress}
-use Rattle.cdc_check.specs.Built.{is_unbuilt, AllBuilt}
-use Rattle.cdc_check.specs.Meanings.{Surroundings, meaning_of, var_in, var_of, sites_after}
-use Rattle.cdc_check.specs.Expressions.{resolved}
-use Rattle.cdc_check.specs.Statements.{Resolves, at_site, controls, target, targets, condition, counted, looped, formed, arm, noded, nodes_in, arms_in}
+use Rattle.cdc_check.specs.Meanings.{Surroundings, surroundings, slot_from, slot_or, meaning_of, var_in, var_of, sites_after}
+use Rattle.cdc_check.specs.Expressions.{resolved, resolved_in}
+use Rattle.cdc_check.specs.Statements.{Resolves, at_site, with_doall, controls, target, targets, condition, counted, looped, formed, arm, noded, nodes_in, arms_in}
 use Rattle.cdc_check.proofs.Blocks as blocks
-use Rattle.cdc_check.proofs.Built.{built_left, built_right, body_slots}
-use Rattle.cdc_check.proofs.Extents.{sooner_none, at_none}
-use Rattle.cdc_check.proofs.Fitting.{Agrees, changed_no_parameter}
+use Rattle.cdc_check.proofs.Doalls.{body_counts}
+use Rattle.cdc_check.proofs.Extents.{at_none}
+use Rattle.cdc_check.proofs.Fitting.{Agrees, rank_of, changed_rank, changed_no_parameter}
 use Rattle.cdc_check.proofs.Fitting as fitting
-use Rattle.cdc_check.proofs.Stating.{IsSerialStmt}
+use Rattle.cdc_check.proofs.Inside as within
+use Rattle.cdc_check.proofs.Inside.{AreApart, one_inside, var_more, AreAround, IsPrivate, around_do, around_doall, Holds, holds_here, holds_do, holds_doall}
+use Rattle.cdc_check.proofs.Opened.{Open, Clear, clear_left, clear_after, clear_right, tree_steady, read_steady, form_steady, inside, doall_open, doall_after, do_after, node_steady, branch_steady, branches_steady}
+use Rattle.cdc_check.proofs.Placed.{IsSerial, IsInside, FormPlaced, HeadPlaced, NodePlaced, BodyPlaced, BranchesPlaced}
 
--- the open loops
-abbrev pub Open : Type 0
-Open = List (List ℕ × Role)
+own_element : (v : Var) (e : plain.Expr) (es : plain.Exprs) → IsOwn v (plain.More e es)
+own_element (Object k) e es = tt
+own_element (Dummy k) e es = tt
+own_element (Slot k) e es = tt
 
--- ---- the open loops after uses
+module _ (p : plain.Program) (shapes : List (List Dim)) (sorts : List (List ℕ × Sort)) (names : List (List ℕ × Meaning)) (apart : AreApart names) where
+  abbrev at : List Named → Surroundings
+  at ns = surroundings names ns
 
-abbrev pub open_after : Open → List Used → Open
-open_after os [] = os
-open_after os (u ∷ us) = open_after (opened_after os u.role u.name) us
+  abbrev Good : List Named → Used → Type 0
+  Good = within.Good p.objects shapes sorts names
 
-after_append : (os : Open) (xs ys : List Used) → open_after os (xs ++ ys) ≡ open_after (open_after os xs) ys
-after_append os [] ys = refl
-after_append os (x ∷ xs) ys = after_append (opened_after os x.role x.name) xs ys
+  abbrev AllGood : List Named → List Used → Type 0
+  AllGood = within.AllGood p.objects shapes sorts names
 
--- nothing is wrong in the first uses, nor in the others after them
-pub record Clean (os : Open) (xs ys : List Used) : Type 0 where
-  pub first : spoiled_from os xs ≡ None
-  pub rest : spoiled_from (open_after os xs) ys ≡ None
+  left : (ns : List Named) (xs ys : List Used) → AllGood ns (xs ++ ys) → AllGood ns xs
+  left ns = fitting.good_left p.objects shapes (length ns) sorts (at ns)
 
-none_both : (a b : Option Place) → a ≡ None → b ≡ None → sooner a b ≡ None
-none_both a b e f = ap (λ x. sooner x b) e ∙ f
+  right : (ns : List Named) (xs ys : List Used) → AllGood ns (xs ++ ys) → AllGood ns ys
+  right ns = fitting.good_right p.objects shapes (length ns) sorts (at ns)
 
-pub clean : (os : Open) (xs ys : List Used) → spoiled_from os (xs ++ ys) ≡ None → Clean os xs ys
-clean os [] ys h = record { first = refl; rest = h }
-clean os (x ∷ xs) ys h =
-    let next : Open = opened_after os x.role x.name in
-    let both : (spoiled os x ≡ None) × (spoiled_from next (xs ++ ys) ≡ None) = sooner_none (spoiled os x) (spoiled_from next (xs ++ ys)) h in
-    let more : Clean next xs ys = clean next xs ys both.1 in
-    record { first = none_both (spoiled os x) (spoiled_from next xs) both.0 more.first; rest = more.rest }
+  abbrev Means : List Named → List ℕ → Var → Type 0
+  Means ns m v = meaning_of (at ns) m ≡ Some (meaning.Variable v)
 
--- uses after which the same loops are open
-abbrev Steady : List Used → Type 0
-Steady us = (os : Open) → open_after os us ≡ os
+  -- each name of the variable is that of an open DO
+  abbrev IsCounted : Open → List Named → Var → Type 0
+  IsCounted os ns v = (m : List ℕ) → Means ns m v → Holds os m
 
-steady_append : (xs ys : List Used) → Steady xs → Steady ys → Steady (xs ++ ys)
-steady_append xs ys f g os = after_append os xs ys ∙ g (open_after os xs) ∙ f os
-
-mutual
-  tree_steady : (t : Plain) → Steady (tree_uses t)
-  tree_steady (PNumber place n) os = refl
-  tree_steady (PName n) os = refl
-  tree_steady (PApply n ts) os = trees_steady ts os
-  tree_steady (PParen place a) os = tree_steady a os
-  tree_steady (PPlus place a) os = tree_steady a os
-  tree_steady (PUn place op a) os = tree_steady a os
-  tree_steady (PBin op a b) os = steady_append (tree_uses a) (tree_uses b) (tree_steady a) (tree_steady b) os
-  tree_steady (PKnown place which ts) os = trees_steady ts os
-
-  trees_steady : (ts : Plains) → Steady (trees_uses ts)
-  trees_steady PEnd os = refl
-  trees_steady (PMore t more) os = steady_append (tree_uses t) (trees_uses more) (tree_steady t) (trees_steady more) os
-
-optional_steady : (t : Option Plain) → Steady (optional_uses t)
-optional_steady None os = refl
-optional_steady (Some t) os = tree_steady t os
-
-joined_steady : {A : Type 0} (f : A → List Used) → ((x : A) → Steady (f x)) → (xs : List A) → Steady (joined (map f xs))
-joined_steady f h [] os = refl
-joined_steady f h (x ∷ xs) os = steady_append (f x) (joined (map f xs)) (h x) (joined_steady f h xs) os
-
-dummies_steady : (ns : List Named) → Steady (names_uses role.Dummy ns)
-dummies_steady [] os = refl
-dummies_steady (n ∷ ns) os = dummies_steady ns os
-
-bound_steady : (b : PBound) → Steady (bound_uses b)
-bound_steady b = steady_append (optional_uses b.0) (tree_uses b.1) (optional_steady b.0) (tree_steady b.1)
-
-shown_steady : (sh : PShown) → Steady (shown_uses sh)
-shown_steady (PText text) os = refl
-shown_steady (PValue t) os = tree_steady t os
-
-read_steady : (spot : PSpot) → Steady (spot_uses role.Input spot)
-read_steady spot os = trees_steady (plains spot.1) os
-
-control_steady : (l : PLoop) → Steady (control_uses l)
-control_steady l =
-    steady_append (tree_uses l.1 ++ tree_uses l.2) (optional_uses l.3) (steady_append (tree_uses l.1) (tree_uses l.2) (tree_steady l.1) (tree_steady l.2)) (optional_steady l.3)
-
--- ---- uses that leave DO loops open at most
-
-abbrev AllCounted : Open → Type 0
-AllCounted [] = Unit {0}
-AllCounted (o ∷ os) = (o.1 ≡ role.Counted) × AllCounted os
-
-record Opens (os now : Open) : Type 0 where
-  more : Open
-  is : now ≡ os ++ more
-  counted : AllCounted more
-
-abbrev Leaves : List Used → Type 0
-Leaves us = (os : Open) → Opens os (open_after os us)
-
-counted_append : (xs ys : Open) → AllCounted xs → AllCounted ys → AllCounted (xs ++ ys)
-counted_append [] ys f g = g
-counted_append (x ∷ xs) ys f g = (f.0, counted_append xs ys f.1 g)
-
-steady_leaves : (us : List Used) → Steady us → Leaves us
-steady_leaves us h os = record { more = []; is = h os ∙ sym (append-nil os); counted = tt }
-
-opens_both : (a b c : Open) → Opens a b → Opens b c → Opens a c
-opens_both a b c f g = record { more = f.more ++ g.more; is = g.is ∙ ap (λ l. l ++ g.more) f.is ∙ append_assoc a f.more g.more; counted = counted_append f.more g.more f.counted g.counted }
-
-leaves_append : (xs ys : List Used) → Leaves xs → Leaves ys → Leaves (xs ++ ys)
-leaves_append xs ys f g os =
-    subst (Opens os) (sym (after_append os xs ys)) (opens_both os (open_after os xs) (open_after (open_after os xs) ys) (f os) (g (open_after os xs)))
-
-form_leaves : (f : PForm) → (is_unbuilt f ≡ true → ⊥) → Leaves (form_uses f)
-form_leaves (FSubroutine name dummies) h = steady_leaves (names_uses role.Dummy dummies) (dummies_steady dummies)
-form_leaves (FInteger items) h = steady_leaves (joined (map item_uses items)) (joined_steady item_uses (λ d. joined_steady bound_uses bound_steady d.1) items)
-form_leaves (FParameter items) h = steady_leaves (joined (map define_uses items)) (joined_steady define_uses (λ d. tree_steady d.1) items)
-form_leaves (FAssign spot value) h = steady_leaves (spot_uses role.Assigned spot ++ tree_uses value) (steady_append (spot_uses role.Assigned spot) (tree_uses value) (λ os. trees_steady (plains spot.1) os) (tree_steady value))
-form_leaves (FIfThen cond) h = steady_leaves (tree_uses cond) (tree_steady cond)
-form_leaves (FElseIf cond) h = steady_leaves (tree_uses cond) (tree_steady cond)
-form_leaves (FLogicalIf cond place simple) h = leaves_append (tree_uses cond) (form_uses simple) (steady_leaves (tree_uses cond) (tree_steady cond)) (form_leaves simple h)
-form_leaves (FDo l) h = λ os. record { more = (l.0.name, role.Counted) ∷ []; is = control_steady l (os ++ (l.0.name, role.Counted) ∷ []); counted = (refl, tt) }
-form_leaves (FDoall l privates) h = absurd (h refl)
-form_leaves (FCall name actuals) h = absurd (h refl)
-form_leaves (FPrint shs) h = steady_leaves (joined (map shown_uses shs)) (joined_steady shown_uses shown_steady shs)
-form_leaves (FRead spots) h = steady_leaves (spots_uses role.Input spots) (joined_steady (spot_uses role.Input) read_steady spots)
-form_leaves _ h = λ os. record { more = []; is = sym (append-nil os); counted = tt }
-
-counted_take : (n : ℕ) (os : Open) → AllCounted os → AllCounted (take n os)
-counted_take zero os h = tt
-counted_take (suc n) [] h = tt
-counted_take (suc n) (o ∷ os) h = (h.0, counted_take n os h.1)
-
-take_front : (os ys : Open) (n k : ℕ) → n ≡ length os + k → take n (os ++ ys) ≡ os ++ take k ys
-take_front [] ys n k e = let same : n ≡ k = omega (arith, e) in ap (λ (m : ℕ). take m ys) same
-take_front (o ∷ os) ys n k e =
-    let more : n ≡ suc (length os + k) = omega (arith, e) in
-    ap (λ (m : ℕ). take m (o ∷ (os ++ ys))) more ∙ ap (λ (l : Open). o ∷ l) (take_front os ys (length os + k) k refl)
-
--- the end of a DO closes it, or a loop that stayed open in it
-closed : (os : Open) (name : List ℕ) (more now : Open) → AllCounted more → now ≡ (os ++ (name, role.Counted) ∷ []) ++ more → Opens os (take (length now - 1) now)
-closed os name more now c e =
-    let flat : now ≡ os ++ (name, role.Counted) ∷ more = e ∙ append_assoc os ((name, role.Counted) ∷ []) more in
-    let count : length (os ++ (name, role.Counted) ∷ more) ≡ length os + suc (length more) = length-append os ((name, role.Counted) ∷ more) in
-    let fewer : length (os ++ (name, role.Counted) ∷ more) - 1 ≡ length os + length more = omega (arith, count) in
-    record {
-      more = take (length more) ((name, role.Counted) ∷ more);
-      is = ap (λ (l : Open). take (length l - 1) l) flat ∙ take_front os ((name, role.Counted) ∷ more) (length (os ++ (name, role.Counted) ∷ more) - 1) (length more) fewer;
-      counted = counted_take (length more) ((name, role.Counted) ∷ more) (refl, c);
-    }
-
--- the loops that are open in the body of a DO
-abbrev inside : Open → Named → Open
-inside os n = os ++ (n.name, role.Counted) ∷ []
-
-loop_leaves : (f : PForm) (us : List Used) → (is_unbuilt f ≡ true → ⊥) → Leaves us → Leaves (form_uses f ++ us ++ closing_uses f)
-loop_leaves (FDo l) us h g = λ os.
-    let head : open_after os (form_uses (FDo l)) ≡ inside os l.0 = control_steady l (inside os l.0) in
-    let body : Opens (inside os l.0) (open_after (inside os l.0) us) = g (inside os l.0) in
-    let now : open_after os (form_uses (FDo l) ++ us) ≡ inside os l.0 ++ body.more = after_append os (form_uses (FDo l)) us ∙ ap (λ (z : Open). open_after z us) head ∙ body.is in
-    subst (Opens os) (sym (after_append os (form_uses (FDo l) ++ us) (used l.0 role.Closed 0 ∷ []))) (closed os l.0.name body.more (open_after os (form_uses (FDo l) ++ us)) body.counted now)
-loop_leaves (FDoall l privates) us h g = absurd (h refl)
-loop_leaves f us h g = leaves_append (form_uses f ++ us) [] (leaves_append (form_uses f) us (form_leaves f h) g) (λ os. record { more = []; is = sym (append-nil os); counted = tt })
-
-mutual
-  node_leaves : (n : PNode) → AllBuilt (node_out n) → Leaves (node_uses n)
-  node_leaves (NPlain s) h = form_leaves s.form h.0
-  node_leaves (NIf bs end) h = branches_leaves bs (built_left (branches_out bs) (end ∷ []) h)
-  node_leaves (NElse bs head b end) h =
-      let rest : AllBuilt (head ∷ (out b ++ (end ∷ []))) = built_right (branches_out bs) (head ∷ (out b ++ (end ∷ []))) h in
-      leaves_append (branches_uses bs) (statement_uses head ++ body_uses b) (branches_leaves bs (built_left (branches_out bs) (head ∷ (out b ++ (end ∷ []))) h))
-      (leaves_append (statement_uses head) (body_uses b) (form_leaves head.form rest.0) (body_leaves b (built_left (out b) (end ∷ []) rest.1)))
-  node_leaves (NLoop head b end) h = loop_leaves head.form (body_uses b) h.0 (body_leaves b (built_left (out b) (end ∷ []) h.1))
-
-  body_leaves : (b : PBody) → AllBuilt (out b) → Leaves (body_uses b)
-  body_leaves Empty h = λ os. record { more = []; is = sym (append-nil os); counted = tt }
-  body_leaves (More n b) h = leaves_append (node_uses n) (body_uses b) (node_leaves n (built_left (node_out n) (out b) h)) (body_leaves b (built_right (node_out n) (out b) h))
-
-  branches_leaves : (bs : PBranches) → AllBuilt (branches_out bs) → Leaves (branches_uses bs)
-  branches_leaves BNone h = λ os. record { more = []; is = sym (append-nil os); counted = tt }
-  branches_leaves (BMore head b more) h =
-      leaves_append (statement_uses head ++ body_uses b) (branches_uses more)
-      (leaves_append (statement_uses head) (body_uses b) (form_leaves head.form h.0) (body_leaves b (built_left (out b) (branches_out more) h.1)))
-      (branches_leaves more (built_right (out b) (branches_out more) h.1))
-
--- ---- names that an open loop counts by
-
-abbrev pub Holds : Open → List ℕ → Type 0
-Holds os m = is_counted (opened_as None m os) ≡ true
-
-as_append : (o : Option Role) (m : List ℕ) (os more : Open) → opened_as o m (os ++ more) ≡ opened_as (opened_as o m os) m more
-as_append o m [] more = refl
-as_append o m (x ∷ os) more = as_append (if bytes_eq m x.0 then Some x.1 else o) m os more
-
-still_counted : (more : Open) (o : Option Role) (m : List ℕ) → AllCounted more → is_counted o ≡ true → is_counted (opened_as o m more) ≡ true
-still_counted [] o m c h = h
-still_counted (x ∷ more) o m c h = still_counted more (if bytes_eq m x.0 then Some x.1 else o) m c.1 (pick (bytes_eq m x.0))
-  where
-    pick : (b : Bool) → is_counted (if b then Some x.1 else o) ≡ true
-    pick true = ap (λ (r : Role). is_counted (Some r)) c.0
-    pick false = h
-
-holds_more : (os now : Open) (m : List ℕ) → Opens os now → Holds os m → Holds now m
-holds_more os now m f h =
-    subst (λ (l : Open). Holds l m) (sym f.is)
-    (subst (λ (o : Option Role). is_counted o ≡ true) (sym (as_append None m os f.more)) (still_counted f.more (opened_as None m os) m f.counted h))
-
-holds_inside : (os : Open) (n : Named) → Holds (inside os n) n.name
-holds_inside os n = subst (λ (o : Option Role). is_counted o ≡ true) (sym (as_append None n.name os ((n.name, role.Counted) ∷ []))) (pick (bytes_eq n.name n.name) ((bytes_eq-Decides n.name n.name).1 refl))
-  where
-    pick : (b : Bool) → b ≡ true → is_counted (if b then Some role.Counted else opened_as None n.name os) ≡ true
-    pick true e = refl
-    pick false e = cc
-
--- ---- what statements resolve to
-
-module _ (p : plain.Program) (shapes : List (List Dim)) (slots : ℕ) (sorts : List (List ℕ × Sort)) (s : Surroundings)
-    (one : (m n : List ℕ) (v : Var) → meaning_of s m ≡ Some (meaning.Variable v) → meaning_of s n ≡ Some (meaning.Variable v) → m ≡ n) where
-  abbrev Good : Used → Type 0
-  Good = fitting.Good p.objects shapes slots sorts s
-
-  abbrev AllGood : List Used → Type 0
-  AllGood = fitting.AllGood p.objects shapes slots sorts s
-
-  left : (xs ys : List Used) → AllGood (xs ++ ys) → AllGood xs
-  left = fitting.good_left p.objects shapes slots sorts s
-
-  right : (xs ys : List Used) → AllGood (xs ++ ys) → AllGood ys
-  right = fitting.good_right p.objects shapes slots sorts s
-
-  -- a name that is changed is a variable
-  stands : (m : Option Meaning) (sort : Option Sort) (r : Role) (n : ℕ) → is_read r ≡ false → Agrees p.objects shapes slots m sort → is_misused sort r n ≡ false → m ≡ Some (meaning.Variable (var_in m))
-  stands None sort r n d a h = absurd a
-  stands (Some (meaning.Number x)) sort r n d a h = absurd (changed_no_parameter r n d (subst (λ (o : Option Sort). is_misused o r n ≡ false) a h))
-  stands (Some (meaning.Variable v)) sort r n d a h = refl
-
-  -- statements store in no variable that an open loop counts by, nor their own loops in theirs
-  pub record Keeps (os : Open) (st : plain.Stmt) : Type 0 where
-    pub kept : (m : List ℕ) (v : Var) → meaning_of s m ≡ Some (meaning.Variable v) → Holds os m → Stores p v st → ⊥
+  -- statements store in no variable that an open DO counts by, nor their own DOs in theirs; and in a DOALL in slots and array elements alone, but not in the index
+  pub record Keeps (os : Open) (ns : List Named) (st : plain.Stmt) : Type 0 where
+    pub kept : (v : Var) → IsVar p.objects shapes (length ns) v → IsCounted os ns v → Stores p v st → ⊥
+    pub index : Stores p (Slot 0) st → ⊥
     pub dos : DosKeepVariables p st
+    pub alone : DoallsStoreAlone st
+    pub own : IsInside ns → StoresInOwn st
 
-  keeps_less : (os now : Open) (st : plain.Stmt) → Opens os now → Keeps now st → Keeps os st
-  keeps_less os now st f h = record { kept = λ m v e here. h.kept m v e (holds_more os now m f here); dos = h.dos }
+  -- ---- a name that is changed
+  stands : (m : Option Meaning) (sort : Option Sort) (r : Role) (n slots : ℕ) → is_read r ≡ false → Agrees p.objects shapes slots m sort → is_misused sort r n ≡ false → m ≡ Some (meaning.Variable (var_in m))
+  stands None sort r n slots d a h = absurd a
+  stands (Some (meaning.Number x)) sort r n slots d a h = absurd (changed_no_parameter r n d (subst (λ (o : Option Sort). is_misused o r n ≡ false) a h))
+  stands (Some (meaning.Variable v)) sort r n slots d a h = refl
 
-  nothing_keeps : (os : Open) → Keeps os (plain.If plain.Skip)
-  nothing_keeps os = record { kept = λ m v e h st. st; dos = tt }
+  -- it is a variable
+  mine : (ns : List Named) (u : Used) → is_read u.role ≡ false → Good ns u → Means ns u.name (var_in (meaning_of (at ns) u.name))
+  mine ns u d g = stands (meaning_of (at ns) u.name) (found u.name sorts) u.role u.subs (length ns) d g.agrees g.fits
 
-  change : (os : Open) (u : Used) → changes u.role ≡ true → is_read u.role ≡ false → Good u → spoiled os u ≡ None
-      → (m : List ℕ) (v : Var) → meaning_of s m ≡ Some (meaning.Variable v) → Holds os m → var_in (meaning_of s u.name) ≡ v → ⊥
-  change os u c d g none m v e h same =
-      let mine : meaning_of s u.name ≡ Some (meaning.Variable v) = stands (meaning_of s u.name) (found u.name sorts) u.role u.subs d g.agrees g.fits ∙ ap (λ (w : Var). Some (meaning.Variable w)) same in
-      let name : m ≡ u.name = one m u.name v e mine in
+  is_variable : (ns : List Named) (u : Used) → is_read u.role ≡ false → Good ns u → IsVar p.objects shapes (length ns) (var_in (meaning_of (at ns) u.name))
+  is_variable ns u d g = (subst (λ (o : Option Meaning). Agrees p.objects shapes (length ns) o (found u.name sorts)) (mine ns u d g) g.agrees).0
+
+  -- that no open DO counts by
+  change : (os : Open) (ns : List Named) (u : Used) → changes u.role ≡ true → is_read u.role ≡ false → Good ns u → spoiled os u ≡ None
+      → (v : Var) → IsCounted os ns v → var_in (meaning_of (at ns) u.name) ≡ v → ⊥
+  change os ns u c d g none v h same =
+      let here : Means ns u.name v = mine ns u d g ∙ ap (λ (w : Var). Some (meaning.Variable w)) same in
       let quiet : (changes u.role && is_counted (opened_as None u.name os)) ≡ false = at_none (changes u.role && is_counted (opened_as None u.name os)) u.place none in
-      clash (changes u.role) (is_counted (opened_as None u.name os)) c (subst (Holds os) name h) quiet
+      clash (changes u.role) (is_counted (opened_as None u.name os)) c (h u.name here) quiet
     where
       clash : (a b : Bool) → a ≡ true → b ≡ true → (a && b) ≡ false → ⊥
       clash true true e f h = cc
       clash true false e f h = cc
       clash false b e f h = cc
 
-  targets_kept : (os : Open) (spots : List PSpot) → AllGood (spots_uses role.Input spots) → spoiled_from os (spots_uses role.Input spots) ≡ None → (k : ℕ)
-      → (m : List ℕ) (v : Var) → meaning_of s m ≡ Some (meaning.Variable v) → Holds os m → Any (λ (t : plain.Target). t.at.var ≡ v) ((targets s spots k).0) → ⊥
-  targets_kept os [] g none k m v e h any = any_none (λ (t : plain.Target). t.at.var ≡ v) any
-  targets_kept os (spot ∷ spots) g none k m v e h any =
-      let c : Clean os (spot_uses role.Input spot) (spots_uses role.Input spots) = clean os (spot_uses role.Input spot) (spots_uses role.Input spots) none in
-      let first : (spoiled os (used spot.0 role.Input (length spot.1)) ≡ None) × (spoiled_from os (trees_uses (plains spot.1)) ≡ None) = sooner_none (spoiled os (used spot.0 role.Input (length spot.1))) (spoiled_from os (trees_uses (plains spot.1))) c.first in
-      let rest : spoiled_from os (spots_uses role.Input spots) ≡ None = subst (λ (z : Open). spoiled_from z (spots_uses role.Input spots) ≡ None) (read_steady spot os) c.rest in
-      elim (any_first (λ (t : plain.Target). t.at.var ≡ v) ((target s spot k).0) ((targets s spots ((target s spot k).1)).0) any) [
-        | inl x ↦ change os (used spot.0 role.Input (length spot.1)) refl refl g.0 first.0 m v e h x
-        | inr x ↦ targets_kept os spots (right (spot_uses role.Input spot) (spots_uses role.Input spots) g) rest ((target s spot k).1) m v e h x
+  -- a scalar that is set in a DOALL is private
+  private : (os : Open) (ns : List Named) (u : Used) → AreAround os ns → IsInside ns → sets_scalar u.role u.subs ≡ true → shared os u ≡ None → IsPrivate u.name ns
+  private os ns u around here sets none =
+      around.own u.name (clash (sets_scalar u.role u.subs) (in_doall os) (is_private_in u.name os) sets (around.doall here)
+      (at_none (sets_scalar u.role u.subs && (in_doall os && not (is_private_in u.name os))) u.place none))
+    where
+      clash : (a b c : Bool) → a ≡ true → b ≡ true → (a && (b && not c)) ≡ false → c ≡ true
+      clash a b true e f h = refl
+      clash true true false e f h = cc
+      clash true false false e f h = cc
+      clash false b false e f h = cc
+
+  private_var : (ns : List Named) (m : List ℕ) (k : ℕ) → slot_from 0 m ns ≡ Some k → var_in (meaning_of (at ns) m) ≡ Slot k
+  private_var ns m k h = ap (λ (o : Option ℕ). var_in (slot_or o (found m names))) h
+
+  -- so it is no slot outside a DOALL
+  not_serial : (ns : List Named) (u : Used) → IsSerial ns → is_read u.role ≡ false → Good ns u → var_in (meaning_of (at ns) u.name) ≡ Slot 0 → ⊥
+  not_serial [] u here d g same = let none : 0 < 0 = subst (IsVar p.objects shapes 0) same (is_variable [] u d g) in omega (arith, none)
+  not_serial (n ∷ ns) u here d g same = here
+
+  -- a slot has no subscripts
+  slot_bare : (ns : List Named) (u : Used) → may_be_whole u.role ≡ false → is_read u.role ≡ false → Good ns u → (k : ℕ) → var_in (meaning_of (at ns) u.name) ≡ Slot k → u.subs ≡ 0
+  slot_bare ns u w d g k same =
+      let here : Means ns u.name (Slot k) = mine ns u d g ∙ ap (λ (v : Var). Some (meaning.Variable v)) same in
+      let agrees : Agrees p.objects shapes (length ns) (Some (meaning.Variable (Slot k))) (found u.name sorts) = subst (λ (o : Option Meaning). Agrees p.objects shapes (length ns) o (found u.name sorts)) here g.agrees in
+      sym (changed_rank (found u.name sorts) u.role u.subs w d g.fits) ∙ sym agrees.1
+
+  -- and the index is not changed
+  not_index : (os : Open) (ns : List Named) (u : Used) → AreAround os ns → may_be_whole u.role ≡ false → is_read u.role ≡ false → sets_scalar u.role 0 ≡ true → Good ns u → shared os u ≡ None
+      → var_in (meaning_of (at ns) u.name) ≡ Slot 0 → ⊥
+  not_index os [] u around w d sets g none same = not_serial [] u tt d g same
+  not_index os (n ∷ ns) u around w d sets g none same =
+      let bare : u.subs ≡ 0 = slot_bare (n ∷ ns) u w d g 0 same in
+      let there : IsPrivate u.name (n ∷ ns) = private os (n ∷ ns) u around tt (subst (λ (k : ℕ). sets_scalar u.role k ≡ true) (sym bare) sets) none in
+      let both : Slot 0 ≡ Slot there.0 = sym same ∙ private_var (n ∷ ns) u.name there.0 there.2 in
+      let number : 0 ≡ there.0 = cc in
+      let low : 1 ≤ there.0 = there.1 in
+      omega (arith, number, low)
+
+  -- a scalar that is set in a DOALL is a slot
+  own_scalar : (os : Open) (ns : List Named) (u : Used) → AreAround os ns → sets_scalar u.role u.subs ≡ true → shared os u ≡ None → IsInside ns → IsOwn (var_in (meaning_of (at ns) u.name)) plain.Empty
+  own_scalar os ns u around sets none here =
+      let there : IsPrivate u.name ns = private os ns u around here sets none in
+      subst (λ (v : Var). IsOwn v plain.Empty) (sym (private_var ns u.name there.0 there.2)) tt
+
+  -- ---- statements
+  nothing_keeps : (os : Open) (ns : List Named) → Keeps os ns (plain.If plain.Skip)
+  nothing_keeps os ns = record { kept = λ v is h st. st; index = λ st. st; dos = tt; alone = tt; own = λ i. tt }
+
+  targets_kept : (os : Open) (ns : List Named) (spots : List PSpot) → AllGood ns (spots_uses role.Input spots) → Clear os (spots_uses role.Input spots) → (k : ℕ)
+      → (v : Var) → IsCounted os ns v → Any (λ (t : plain.Target). t.at.var ≡ v) ((targets (at ns) spots k).0) → ⊥
+  targets_kept os ns [] g clear k v h any = any_none (λ (t : plain.Target). t.at.var ≡ v) any
+  targets_kept os ns (spot ∷ spots) g clear k v h any =
+      let rest : Clear os (spots_uses role.Input spots) = clear_right os (spot_uses role.Input spot) (spots_uses role.Input spots) (read_steady spot) clear in
+      elim (any_first (λ (t : plain.Target). t.at.var ≡ v) ((target (at ns) spot k).0) ((targets (at ns) spots ((target (at ns) spot k).1)).0) any) [
+        | inl x ↦ change os ns (used spot.0 role.Input (length spot.1)) refl refl g.0 clear.0.0 v h x
+        | inr x ↦ targets_kept os ns spots (right ns (spot_uses role.Input spot) (spots_uses role.Input spots) g) rest ((target (at ns) spot k).1) v h x
       ]
 
-  form_keeps : (f : PForm) → AllGood (form_uses f) → (os : Open) → spoiled_from os (form_uses f) ≡ None → (line : ℕ) (k : Progress) → Keeps os ((formed f line s k).0)
-  form_keeps (FAssign spot value) g os none line k =
+  targets_serial : (ns : List Named) (spots : List PSpot) → IsSerial ns → AllGood ns (spots_uses role.Input spots) → (k : ℕ) → Any (λ (t : plain.Target). t.at.var ≡ Slot 0) ((targets (at ns) spots k).0) → ⊥
+  targets_serial ns [] here g k any = any_none (λ (t : plain.Target). t.at.var ≡ Slot 0) any
+  targets_serial ns (spot ∷ spots) here g k any =
+      elim (any_first (λ (t : plain.Target). t.at.var ≡ Slot 0) ((target (at ns) spot k).0) ((targets (at ns) spots ((target (at ns) spot k).1)).0) any) [
+        | inl x ↦ not_serial ns (used spot.0 role.Input (length spot.1)) here refl g.0 x
+        | inr x ↦ targets_serial ns spots here (right ns (spot_uses role.Input spot) (spots_uses role.Input spots) g) ((target (at ns) spot k).1) x
+      ]
+
+  not_both : (ns : List Named) → IsSerial ns → IsInside ns → ⊥
+  not_both [] a b = b
+  not_both (n ∷ ns) a b = a
+
+  -- what is assigned in a DOALL
+  own_target : (os : Open) (ns : List Named) (n : Named) (subs : ℕ) (es : List plain.Expr) → length es ≡ subs → AreAround os ns → shared os (used n role.Assigned subs) ≡ None → IsInside ns → IsOwn (var_of (at ns) n) (listed es)
+  own_target os ns n subs [] count around none here =
+      own_scalar os ns (used n role.Assigned subs) around (subst (λ (k : ℕ). nat_eq k 0 ≡ true) count refl) none here
+  own_target os ns n subs (e ∷ es) count around none here = own_element (var_of (at ns) n) e (listed es)
+
+  form_keeps : (f : PForm) (os : Open) (ns : List Named) → FormPlaced ns f → AreAround os ns → AllGood ns (form_uses f) → Clear os (form_uses f) → (line : ℕ) (k : Progress) → Keeps os ns ((formed f line (at ns) k).0)
+  form_keeps (FAssign spot value) os ns placed around g clear line k =
       let u : Used = used spot.0 role.Assigned (length spot.1) in
-      let first : (spoiled os u ≡ None) × (spoiled_from os (trees_uses (plains spot.1) ++ tree_uses value) ≡ None) = sooner_none (spoiled os u) (spoiled_from os (trees_uses (plains spot.1) ++ tree_uses value)) none in
-      record { kept = λ m v e h st. change os u refl refl g.0 first.0 m v e h st; dos = tt }
-  form_keeps (FLogicalIf cond place simple) g os none line k =
-      let c : Clean os (tree_uses cond) (form_uses simple) = clean os (tree_uses cond) (form_uses simple) none in
-      let rest : spoiled_from os (form_uses simple) ≡ None = subst (λ (z : Open). spoiled_from z (form_uses simple) ≡ None) (tree_steady cond os) c.rest in
-      let inner : Keeps os ((formed simple line s (at_site ((resolved s cond k.sites).1) k)).0) = form_keeps simple (right (tree_uses cond) (form_uses simple) g) os rest line (at_site ((resolved s cond k.sites).1) k) in
+      let count : length ((resolved_in (at ns) (plains spot.1) k.sites).0) ≡ length spot.1 = sym (sym (count_plains spot.1) ∙ fitting.resolved_count p.objects shapes (length ns) sorts (at ns) (plains spot.1) k.sites) in
       record {
-        kept = λ m v e h st. elim st [ inl x ↦ elim x [ inl y ↦ inner.kept m v e h y | inr y ↦ y ] | inr x ↦ x ];
-        dos = ((inner.dos, tt), tt);
+        kept = λ v is h st. change os ns u refl refl g.0 clear.0.0 v h st;
+        index = λ st. not_index os ns u around refl refl refl g.0 clear.0.1 st;
+        dos = tt;
+        alone = tt;
+        own = λ here. own_target os ns spot.0 (length spot.1) ((resolved_in (at ns) (plains spot.1) k.sites).0) count around clear.0.1 here;
       }
-  form_keeps (FRead spots) g os none line k = record { kept = λ m v e h st. targets_kept os spots g none k.sites m v e h st; dos = tt }
-  form_keeps _ g os none line k = record { kept = λ m v e h st. st; dos = tt }
+  form_keeps (FLogicalIf cond place simple) os ns placed around g clear line k =
+      let rest : Clear os (form_uses simple) = clear_right os (tree_uses cond) (form_uses simple) (tree_steady cond) clear in
+      let start : Progress = at_site ((resolved (at ns) cond k.sites).1) k in
+      let inner : Keeps os ns ((formed simple line (at ns) start).0) = form_keeps simple os ns placed around (right ns (tree_uses cond) (form_uses simple) g) rest line start in
+      record {
+        kept = λ v is h st. elim st [ inl x ↦ elim x [ inl y ↦ inner.kept v is h y | inr y ↦ y ] | inr x ↦ x ];
+        index = λ st. elim st [ inl x ↦ elim x [ inl y ↦ inner.index y | inr y ↦ y ] | inr x ↦ x ];
+        dos = ((inner.dos, tt), tt);
+        alone = ((inner.alone, tt), tt);
+        own = λ here. ((inner.own here, tt), tt);
+      }
+  form_keeps (FPrint shs) os ns placed around g clear line k = record { kept = λ v is h st. st; index = λ st. st; dos = tt; alone = tt; own = λ here. tt }
+  form_keeps (FRead spots) os ns placed around g clear line k = record {
+    kept = λ v is h st. targets_kept os ns spots g clear k.sites v h st;
+    index = λ st. targets_serial ns spots placed g k.sites st;
+    dos = tt;
+    alone = tt;
+    own = λ here. absurd (not_both ns placed here);
+  }
+  form_keeps (FDo l) os ns placed around g clear line k = absurd placed
+  form_keeps (FDoall l privates) os ns placed around g clear line k = absurd placed
+  form_keeps _ os ns placed around g clear line k = nothing_keeps os ns
 
   -- ---- loops
-  counted_keeps : (line : ℕ) (l : PLoop) (inner : Resolves) (os : Open) → Good (used l.0 role.Counted 0) → spoiled os (used l.0 role.Counted 0) ≡ None
-      → ((k : Progress) → Keeps (inside os l.0) (chain ((inner s k).0))) → ((k : Progress) → IsSerialStmt (chain ((inner s k).0))) → (k : Progress) → Keeps os ((counted line s l inner k).0)
-  counted_keeps line l inner os g none keeps serial k =
-      let start : Progress = at_site (sites_after (var_of s l.0) ((controls line s l k.sites).1)) k in
-      let b : Keeps (inside os l.0) (chain ((inner s start).0)) = keeps start in
-      let mine : meaning_of s l.0.name ≡ Some (meaning.Variable (var_of s l.0)) = stands (meaning_of s l.0.name) (found l.0.name sorts) role.Counted 0 refl g.agrees g.fits in
+  counted_keeps : (line : ℕ) (l : PLoop) (inner : Resolves) (os : Open) (ns : List Named) → length ns ≤ 33 → AreAround os ns → Good ns (used l.0 role.Counted 0) → spoiled os (used l.0 role.Counted 0) ≡ None
+      → shared os (used l.0 role.Counted 0) ≡ None → ((k : Progress) → Keeps (inside os l.0) ns (chain ((inner (at ns) k).0))) → ((k : Progress) → calls_in (chain ((inner (at ns) k).0)) ≡ 0)
+      → (k : Progress) → Keeps os ns ((counted line (at ns) l inner k).0)
+  counted_keeps line l inner os ns few around g none free keeps calls k =
+      let u : Used = used l.0 role.Counted 0 in
+      let v : Var = var_of (at ns) l.0 in
+      let start : Progress = at_site (sites_after v ((controls line (at ns) l k.sites).1)) k in
+      let b : Keeps (inside os l.0) ns (chain ((inner (at ns) start).0)) = keeps start in
+      let here : IsCounted (inside os l.0) ns v = λ m e. subst (Holds (inside os l.0)) (one_inside names ns few apart l.0.name m v (mine ns u refl g) e) (holds_here os l.0) in
       record {
-        kept = λ m v e h st. elim st [
-          | inl x ↦ change os (used l.0 role.Counted 0) refl refl g none m v e h x
-          | inr x ↦ b.kept m v e (holds_more os (inside os l.0) m (record { more = (l.0.name, role.Counted) ∷ []; is = refl; counted = (refl, tt) }) h) x
+        kept = λ w is h st. elim st [
+          | inl x ↦ change os ns u refl refl g none w h x
+          | inr x ↦ b.kept w is (λ m e. holds_do os l.0 m (h m e)) x
         ];
-        dos = (λ may. b.kept l.0.name (var_of s l.0) mine (holds_inside os l.0) (may_store p (var_of s l.0) (chain ((inner s start).0)) (serial start) may), b.dos);
+        index = λ st. elim st [ inl x ↦ not_index os ns u around refl refl refl g free x | inr x ↦ b.index x ];
+        dos = (λ may. b.kept v (is_variable ns u refl g) here (uncalled_stores p v (chain ((inner (at ns) start).0)) (calls start) may), b.dos);
+        alone = b.alone;
+        own = λ i. (own_scalar os ns u around refl free i, b.own i);
       }
 
-  loop_keeps : (f : PForm) (line : ℕ) (inner : Resolves) (us : List Used) (os : Open) → (is_unbuilt f ≡ true → ⊥) → AllGood (form_uses f) → spoiled_from os (form_uses f ++ us) ≡ None
-      → ((now : Open) → spoiled_from now us ≡ None → (k : Progress) → Keeps now (chain ((inner s k).0))) → ((k : Progress) → IsSerialStmt (chain ((inner s k).0))) → (k : Progress) → Keeps os ((looped line f inner s k).0)
-  loop_keeps (FDo l) line inner us os h g none keeps serial k =
-      let c : Clean os (form_uses (FDo l)) us = clean os (form_uses (FDo l)) us none in
-      let first : (spoiled os (used l.0 role.Counted 0) ≡ None) × (spoiled_from (inside os l.0) (control_uses l) ≡ None) = sooner_none (spoiled os (used l.0 role.Counted 0)) (spoiled_from (inside os l.0) (control_uses l)) c.first in
-      let rest : spoiled_from (inside os l.0) us ≡ None = subst (λ (z : Open). spoiled_from z us ≡ None) (control_steady l (inside os l.0)) c.rest in
-      counted_keeps line l inner os g.0 first.0 (keeps (inside os l.0) rest) serial k
-  loop_keeps (FDoall l ps) line inner us os h g none keeps serial k = absurd (h refl)
-  loop_keeps _ line inner us os h g none keeps serial k = nothing_keeps os
+  -- a variable outside is no slot of the DOALL
+  outer_counted : (os : Open) (l : PLoop) (privates : List Named) (v : Var) → IsVar p.objects shapes 0 v → IsCounted os [] v → IsCounted (doall_open os l.0 privates) (l.0 ∷ privates) v
+  outer_counted os l privates v is h m = go (slot_from 0 m (l.0 ∷ privates)) refl
+    where
+      go : (o : Option ℕ) → slot_from 0 m (l.0 ∷ privates) ≡ o → slot_or o (found m names) ≡ Some (meaning.Variable v) → Holds (doall_open os l.0 privates) m
+      go None e f = holds_doall os l.0 privates m e (h m f)
+      go (Some k) e f =
+          let same : Slot k ≡ v = cc in
+          let none : k < 0 = subst (IsVar p.objects shapes 0) (sym same) is in
+          absurd (omega (arith, none))
+
+  parallel_keeps : (line : ℕ) (l : PLoop) (privates : List Named) (inner : Resolves) (os : Open) → ((k : Progress) → Keeps (doall_open os l.0 privates) (l.0 ∷ privates) (chain ((inner (at (l.0 ∷ privates)) k).0)))
+      → (k : Progress) → Keeps os [] ((looped line (FDoall l privates) inner (at []) k).0)
+  parallel_keeps line l privates inner os keeps k =
+      let start : Progress = with_doall ((controls line (at []) l k.sites).1) k in
+      let b : Keeps (doall_open os l.0 privates) (l.0 ∷ privates) (chain ((inner (at (l.0 ∷ privates)) start).0)) = keeps start in
+      record {
+        kept = λ v is h st. b.kept v (var_more p.objects shapes (length (l.0 ∷ privates)) v is) (outer_counted os l privates v is h) st;
+        index = b.index;
+        dos = b.dos;
+        alone = b.own tt;
+        own = λ i. absurd i;
+      }
+
+  loop_keeps : (f : PForm) (line : ℕ) (inner : Resolves) (us : List Used) (P : List Named → Type 0) (os : Open) (ns : List Named) → length ns ≤ 33 → HeadPlaced ns f P → AreAround os ns
+      → AllGood ns (form_uses f) → AllGood ns us → Clear os (form_uses f ++ us)
+      → ((now : Open) (ms : List Named) → length ms ≤ 33 → P ms → AreAround now ms → AllGood ms us → Clear now us → (k : Progress) → Keeps now ms (chain ((inner (at ms) k).0)))
+      → ((ms : List Named) (k : Progress) → calls_in (chain ((inner (at ms) k).0)) ≡ 0) → (k : Progress) → Keeps os ns ((looped line f inner (at ns) k).0)
+  loop_keeps (FDo l) line inner us P os ns few placed around g good clear keeps calls k =
+      let rest : Clear (inside os l.0) us = subst (λ (z : Open). Clear z us) (do_after os l) (clear_after os (form_uses (FDo l)) us clear) in
+      counted_keeps line l inner os ns few around g.0 clear.0.0 clear.0.1 (keeps (inside os l.0) ns few placed (around_do os ns l.0 around) good rest) (calls ns) k
+  loop_keeps (FDoall l ps) line inner us P os [] few placed around g good clear keeps calls k =
+      let rest : Clear (doall_open os l.0 ps) us = subst (λ (z : Open). Clear z us) (doall_after os l ps) (clear_after os (form_uses (FDoall l ps)) us clear) in
+      parallel_keeps line l ps inner os
+      (keeps (doall_open os l.0 ps) (l.0 ∷ ps) placed.1.few placed.2 (around_doall os l.0 ps around placed.1.once) (blocks.doall_good p (λ u. 0) 0 shapes sorts names l ps placed.1 g us good) rest) k
+  loop_keeps (FDoall l ps) line inner us P os (n ∷ ns) few placed around g good clear keeps calls k = absurd placed.0
+  loop_keeps _ line inner us P os ns few placed around g good clear keeps calls k = absurd placed
 
   -- ---- branches
-  -- an arm keeps variables, where what comes after it does
-  record ArmKeeps (os : Open) (a : plain.Stmt → plain.Stmt) : Type 0 where
-    kept : (o : plain.Stmt) (m : List ℕ) (v : Var) → meaning_of s m ≡ Some (meaning.Variable v) → Holds os m → (Stores p v o → ⊥) → Stores p v (a o) → ⊥
-    dos : (o : plain.Stmt) → DosKeepVariables p o → DosKeepVariables p (a o)
+  if_keeps : (os : Open) (ns : List Named) (arms : plain.Stmt) → Keeps os ns arms → Keeps os ns (plain.If arms)
+  if_keeps os ns arms h = record { kept = h.kept; index = h.index; dos = h.dos; alone = h.alone; own = h.own }
 
-  abbrev EachKeeps : Open → List (plain.Stmt → plain.Stmt) → Type 0
-  EachKeeps os [] = Unit {0}
-  EachKeeps os (a ∷ rest) = ArmKeeps os a × EachKeeps os rest
+  skip_keeps : (os : Open) (ns : List Named) → Keeps os ns plain.Skip
+  skip_keeps os ns = record { kept = λ v is h st. st; index = λ st. st; dos = tt; alone = tt; own = λ i. tt }
 
-  each_less : (os now : Open) (arms : List (plain.Stmt → plain.Stmt)) → Opens os now → EachKeeps now arms → EachKeeps os arms
-  each_less os now [] f h = tt
-  each_less os now (a ∷ rest) f h = (record { kept = λ o m v e here. h.0.kept o m v e (holds_more os now m f here); dos = h.0.dos }, each_less os now rest f h.1)
-
-  arms_keep : (os : Open) (arms : List (plain.Stmt → plain.Stmt)) (o : plain.Stmt) → EachKeeps os arms → Keeps os o → Keeps os (in_arms arms o)
-  arms_keep os [] o e f = f
-  arms_keep os (a ∷ more) o e f =
-      let inner : Keeps os (in_arms more o) = arms_keep os more o e.1 f in
-      record { kept = λ m v is here. e.0.kept (in_arms more o) m v is here (inner.kept m v is here); dos = e.0.dos (in_arms more o) inner.dos }
-
-  if_keeps : (os : Open) (arms : plain.Stmt) → Keeps os arms → Keeps os (plain.If arms)
-  if_keeps os arms h = record { kept = h.kept; dos = h.dos }
-
-  skip_keeps : (os : Open) → Keeps os plain.Skip
-  skip_keeps os = record { kept = λ m v e h st. st; dos = tt }
-
-  arm_keeps : (os : Open) (line : ℕ) (cond : plain.Expr) (body : plain.Stmt) → Keeps os body → ArmKeeps os (λ o. plain.Arm line cond body o)
-  arm_keeps os line cond body f = record {
-    kept = λ o m v e h none st. elim st [ inl x ↦ f.kept m v e h x | inr x ↦ none x ];
-    dos = λ o g. (f.dos, g);
+  arm_keeps : (os : Open) (ns : List Named) (line : ℕ) (cond : plain.Expr) (body o : plain.Stmt) → Keeps os ns body → Keeps os ns o → Keeps os ns (plain.Arm line cond body o)
+  arm_keeps os ns line cond body o f g = record {
+    kept = λ v is h st. elim st [ inl x ↦ f.kept v is h x | inr x ↦ g.kept v is h x ];
+    index = λ st. elim st [ inl x ↦ f.index x | inr x ↦ g.index x ];
+    dos = (f.dos, g.dos);
+    alone = (f.alone, g.alone);
+    own = λ i. (f.own i, g.own i);
   }
 
   -- ---- constructs
-  serial : (b : PBody) → AllGood (body_uses b) → AllBuilt (out b) → (k : Progress) → IsSerialStmt (chain ((nodes_in b s k).0))
-  serial b g h k = (blocks.body_ends p (λ u. 0) 0 shapes slots sorts s b g (body_slots b h) k).only
-
   mutual
-    node_keeps : (n : PNode) → AllGood (node_uses n) → AllBuilt (node_out n) → (os : Open) → spoiled_from os (node_uses n) ≡ None → (k : Progress) → Keeps os ((noded n s k).0)
-    node_keeps (NPlain st) g h os none k = form_keeps st.form g os none st.place.line k
-    node_keeps (NIf bs end) g h os none k =
-        if_keeps os (in_arms ((arms_in bs s k).0) plain.Skip) (arms_keep os ((arms_in bs s k).0) plain.Skip (branches_keep bs g (built_left (branches_out bs) (end ∷ []) h) os none k) (skip_keeps os))
-    node_keeps (NElse bs head b end) g h os none k =
-        let after : AllBuilt (head ∷ (out b ++ (end ∷ []))) = built_right (branches_out bs) (head ∷ (out b ++ (end ∷ []))) h in
-        let before : AllBuilt (branches_out bs) = built_left (branches_out bs) (head ∷ (out b ++ (end ∷ []))) h in
-        let c : Clean os (branches_uses bs) (statement_uses head ++ body_uses b) = clean os (branches_uses bs) (statement_uses head ++ body_uses b) none in
-        let now : Open = open_after os (branches_uses bs) in
-        let d : Clean now (statement_uses head) (body_uses b) = clean now (statement_uses head) (body_uses b) c.rest in
-        let good : AllGood (statement_uses head ++ body_uses b) = right (branches_uses bs) (statement_uses head ++ body_uses b) g in
-        let m : Progress = (arms_in bs s k).1 in
-        let opens : Opens os (open_after now (statement_uses head)) = opens_both os now (open_after now (statement_uses head)) (branches_leaves bs before os) (form_leaves head.form after.0 now) in
-        let other : Keeps os (chain ((nodes_in b s m).0)) =
-        keeps_less os (open_after now (statement_uses head)) (chain ((nodes_in b s m).0)) opens
-        (body_keeps b (right (statement_uses head) (body_uses b) good) (built_left (out b) (end ∷ []) after.1) (open_after now (statement_uses head)) d.rest m) in
-        if_keeps os (in_arms ((arms_in bs s k).0) (chain ((nodes_in b s m).0)))
-        (arms_keep os ((arms_in bs s k).0) (chain ((nodes_in b s m).0)) (branches_keep bs (left (branches_uses bs) (statement_uses head ++ body_uses b) g) before os c.first k) other)
-    node_keeps (NLoop head b end) g h os none k =
-        let two : AllGood (statement_uses head ++ body_uses b) = left (statement_uses head ++ body_uses b) (closing_uses head.form) g in
-        let good : AllGood (body_uses b) = right (statement_uses head) (body_uses b) two in
-        let built : AllBuilt (out b) = built_left (out b) (end ∷ []) h.1 in
-        let c : Clean os (statement_uses head ++ body_uses b) (closing_uses head.form) = clean os (statement_uses head ++ body_uses b) (closing_uses head.form) none in
-        loop_keeps head.form head.place.line (nodes_in b) (body_uses b) os h.0 (left (statement_uses head) (body_uses b) two) c.first
-        (λ now clear. body_keeps b good built now clear) (serial b good built) k
+    node_keeps : (n : PNode) (os : Open) (ns : List Named) → length ns ≤ 33 → NodePlaced ns n → AreAround os ns → AllGood ns (node_uses n) → Clear os (node_uses n) → (k : Progress) → Keeps os ns ((noded n (at ns) k).0)
+    node_keeps (NPlain st) os ns few placed around g clear k = form_keeps st.form os ns placed around g clear st.place.line k
+    node_keeps (NIf bs end) os ns few placed around g clear k =
+        if_keeps os ns (in_arms ((arms_in bs (at ns) k).0) plain.Skip) (blocks.arms_keep (Keeps os ns) ((arms_in bs (at ns) k).0) plain.Skip (branches_keep bs os ns few placed around g clear k) (skip_keeps os ns))
+    node_keeps (NElse bs head b end) os ns few placed around g clear k =
+        let rest : Clear os (statement_uses head ++ body_uses b) = clear_right os (branches_uses bs) (statement_uses head ++ body_uses b) (branches_steady ns bs placed.0) clear in
+        let last : Clear os (body_uses b) = clear_right os (statement_uses head) (body_uses b) (form_steady head.form placed.1) rest in
+        let good : AllGood ns (statement_uses head ++ body_uses b) = right ns (branches_uses bs) (statement_uses head ++ body_uses b) g in
+        let m : Progress = (arms_in bs (at ns) k).1 in
+        if_keeps os ns (in_arms ((arms_in bs (at ns) k).0) (chain ((nodes_in b (at ns) m).0)))
+        (blocks.arms_keep (Keeps os ns) ((arms_in bs (at ns) k).0) (chain ((nodes_in b (at ns) m).0))
+        (branches_keep bs os ns few placed.0 around (left ns (branches_uses bs) (statement_uses head ++ body_uses b) g) (clear_left os (branches_uses bs) (statement_uses head ++ body_uses b) clear) k)
+        (body_keeps b os ns few placed.2 around (right ns (statement_uses head) (body_uses b) good) last m))
+    node_keeps (NLoop head b end) os ns few placed around g clear k =
+        let two : AllGood ns (statement_uses head ++ body_uses b) = left ns (statement_uses head ++ body_uses b) (closing_uses head.form) g in
+        loop_keeps head.form head.place.line (nodes_in b) (body_uses b) (λ ms. BodyPlaced ms b) os ns few placed around (left ns (statement_uses head) (body_uses b) two) (right ns (statement_uses head) (body_uses b) two)
+        (clear_left os (statement_uses head ++ body_uses b) (closing_uses head.form) clear) (λ now ms few there around good clear k. body_keeps b now ms few there around good clear k) (λ ms k. (body_counts b (at ms) k).calls) k
 
-    pub body_keeps : (b : PBody) → AllGood (body_uses b) → AllBuilt (out b) → (os : Open) → spoiled_from os (body_uses b) ≡ None → (k : Progress) → Keeps os (chain ((nodes_in b s k).0))
-    body_keeps Empty g h os none k = skip_keeps os
-    body_keeps (More n rest) g h os none k =
-        let c : Clean os (node_uses n) (body_uses rest) = clean os (node_uses n) (body_uses rest) none in
-        let built : AllBuilt (node_out n) = built_left (node_out n) (out rest) h in
-        let now : Open = open_after os (node_uses n) in
-        let m : Progress = (noded n s k).1 in
-        let a : Keeps os ((noded n s k).0) = node_keeps n (left (node_uses n) (body_uses rest) g) built os c.first k in
-        let b : Keeps os (chain ((nodes_in rest s m).0)) =
-        keeps_less os now (chain ((nodes_in rest s m).0)) (node_leaves n built os) (body_keeps rest (right (node_uses n) (body_uses rest) g) (built_right (node_out n) (out rest) h) now c.rest m) in
-        record { kept = λ i v e here st. elim st [ inl x ↦ a.kept i v e here x | inr x ↦ b.kept i v e here x ]; dos = (a.dos, b.dos) }
+    pub body_keeps : (b : PBody) (os : Open) (ns : List Named) → length ns ≤ 33 → BodyPlaced ns b → AreAround os ns → AllGood ns (body_uses b) → Clear os (body_uses b) → (k : Progress) → Keeps os ns (chain ((nodes_in b (at ns) k).0))
+    body_keeps Empty os ns few placed around g clear k = skip_keeps os ns
+    body_keeps (More n rest) os ns few placed around g clear k =
+        let m : Progress = (noded n (at ns) k).1 in
+        let a : Keeps os ns ((noded n (at ns) k).0) = node_keeps n os ns few placed.0 around (left ns (node_uses n) (body_uses rest) g) (clear_left os (node_uses n) (body_uses rest) clear) k in
+        let b : Keeps os ns (chain ((nodes_in rest (at ns) m).0)) =
+        body_keeps rest os ns few placed.1 around (right ns (node_uses n) (body_uses rest) g) (clear_right os (node_uses n) (body_uses rest) (node_steady ns n placed.0) clear) m in
+        record {
+          kept = λ v is h st. elim st [ inl x ↦ a.kept v is h x | inr x ↦ b.kept v is h x ];
+          index = λ st. elim st [ inl x ↦ a.index x | inr x ↦ b.index x ];
+          dos = (a.dos, b.dos);
+          alone = (a.alone, b.alone);
+          own = λ i. (a.own i, b.own i);
+        }
 
-    branches_keep : (bs : PBranches) → AllGood (branches_uses bs) → AllBuilt (branches_out bs) → (os : Open) → spoiled_from os (branches_uses bs) ≡ None → (k : Progress) → EachKeeps os ((arms_in bs s k).0)
-    branches_keep BNone g h os none k = tt
-    branches_keep (BMore head b rest) g h os none k =
-        let two : AllGood (statement_uses head ++ body_uses b) = left (statement_uses head ++ body_uses b) (branches_uses rest) g in
-        let built : AllBuilt (out b) = built_left (out b) (branches_out rest) h.1 in
-        let c : Clean os (statement_uses head ++ body_uses b) (branches_uses rest) = clean os (statement_uses head ++ body_uses b) (branches_uses rest) none in
-        let d : Clean os (statement_uses head) (body_uses b) = clean os (statement_uses head) (body_uses b) c.first in
-        let now : Open = open_after os (statement_uses head) in
-        let start : Progress = at_site ((condition head.form s k.sites).1) k in
-        let body : Keeps os (chain ((nodes_in b s start).0)) =
-        keeps_less os now (chain ((nodes_in b s start).0)) (form_leaves head.form h.0 os) (body_keeps b (right (statement_uses head) (body_uses b) two) built now d.rest start) in
-        let all : Opens os (open_after os (statement_uses head ++ body_uses b)) = leaves_append (statement_uses head) (body_uses b) (form_leaves head.form h.0) (body_leaves b built) os in
-        let later : Open = open_after os (statement_uses head ++ body_uses b) in
-        let m : Progress = (arm head (nodes_in b) s k).1 in (
-          arm_keeps os head.place.line ((condition head.form s k.sites).0) (chain ((nodes_in b s start).0)) body,
-          each_less os later ((arms_in rest s m).0) all
-              (branches_keep rest (right (statement_uses head ++ body_uses b) (branches_uses rest) g) (built_right (out b) (branches_out rest) h.1) later c.rest m),
+    branches_keep : (bs : PBranches) (os : Open) (ns : List Named) → length ns ≤ 33 → BranchesPlaced ns bs → AreAround os ns → AllGood ns (branches_uses bs) → Clear os (branches_uses bs) → (k : Progress) → blocks.EachKeeps (Keeps os ns) ((arms_in bs (at ns) k).0)
+    branches_keep BNone os ns few placed around g clear k = tt
+    branches_keep (BMore head b rest) os ns few placed around g clear k =
+        let two : AllGood ns (statement_uses head ++ body_uses b) = left ns (statement_uses head ++ body_uses b) (branches_uses rest) g in
+        let first : Clear os (statement_uses head ++ body_uses b) = clear_left os (statement_uses head ++ body_uses b) (branches_uses rest) clear in
+        let last : Clear os (body_uses b) = clear_right os (statement_uses head) (body_uses b) (form_steady head.form placed.0) first in
+        let later : Clear os (branches_uses rest) =
+        clear_right os (statement_uses head ++ body_uses b) (branches_uses rest) (branch_steady ns head b placed.0 placed.1) clear in
+        let start : Progress = at_site ((condition head.form (at ns) k.sites).1) k in
+        let m : Progress = (arm head (nodes_in b) (at ns) k).1 in (
+          λ o f. arm_keeps os ns head.place.line ((condition head.form (at ns) k.sites).0) (chain ((nodes_in b (at ns) start).0)) o
+              (body_keeps b os ns few placed.1 around (right ns (statement_uses head) (body_uses b) two) last start) f,
+          branches_keep rest os ns few placed.2 around (right ns (statement_uses head ++ body_uses b) (branches_uses rest) g) later m,
         )

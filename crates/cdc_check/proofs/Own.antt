@@ -17,6 +17,7 @@ use Rattle.cdc_check.specs.declared.meaning.Meaning.TheVariants as meaning
 use Rattle.cdc_check.specs.declared.progress.Shape.{Shape}
 use Rattle.cdc_check.specs.Threads.{numbered}
 use Rattle.cdc_check.specs.Objects.{dim, Naming, naming, shape, with_object, with_value, with_declared, declared_from, implied_from, named_in}
+use Rattle.cdc_check.proofs.Inside.{AreApart}
 use Rattle.cdc_check.proofs.Tables.{Grown, numbered_small, declared_grown, implied_grown}
 
 abbrev name_in : Option Shape → Option (List ℕ)
@@ -106,5 +107,8 @@ module _ (F : List Shape) (small : length F ≤ 1024) where
   one_name (Dummy k) m n f g = absurd f
   one_name (Slot k) m n f g = absurd f
 
-  pub distinct : (names : List (List ℕ × Meaning)) → Owned names → (m n : List ℕ) (v : Var) → found m names ≡ Some (meaning.Variable v) → found n names ≡ Some (meaning.Variable v) → m ≡ n
+  distinct : (names : List (List ℕ × Meaning)) → Owned names → (m n : List ℕ) (v : Var) → found m names ≡ Some (meaning.Variable v) → found n names ≡ Some (meaning.Variable v) → m ≡ n
   distinct names own m n v e f = one_name v m n (subst (IsOwn m) e (own m)) (subst (IsOwn n) f (own n))
+
+  pub apart : (names : List (List ℕ × Meaning)) → Owned names → AreApart names
+  apart names own = record { one = distinct names own; no_slot = λ m k e. subst (IsOwn m) e (own m) }

@@ -1,4 +1,4 @@
--- What statements resolve to fits, where each use in them is of a name that is known and fits its declaration; and it has no DOALL and no CALL.
+-- What statements resolve to fits, where each use in them is of a name that is known and fits its declaration; and it has no CALL, and in a DOALL no DOALL.
 use Rattle.std.proofs.Common.{◌≡◌, ℕ, zero, suc, ◌+◌, ◌≤◌, false, List, [], ◌∷◌, ◌++◌, map, length, Option, Some, None, refl, sym, subst, ◌∙◌, arith}
 use Rattle.std.specs.List.{All}
 use Rattle.std.proofs.lemmas.List.{length-append}
@@ -29,10 +29,11 @@ use Rattle.cdc_check.specs.Expressions.{resolved, resolved_in}
 use Rattle.cdc_check.specs.Statements.{at_site, target, targets, item, items, formed}
 use Rattle.cdc_check.proofs.Fitting as fitting
 use Rattle.cdc_check.proofs.Fitting.{Agrees, changed_rank, changed_no_parameter, empty}
+use Rattle.cdc_check.proofs.Placed.{IsSerial, FormPlaced}
 
--- a statement without DOALL and CALL
-abbrev pub IsSerialStmt : plain.Stmt → Type 0
-IsSerialStmt = HasOnly (Unit {0}) ⊥ ⊥
+-- statements without CALL; in a DOALL, where they have no DOALL and do not print or read either
+abbrev pub Allowed : List Named → plain.Stmt → Type 0
+Allowed ns = HasOnly (IsSerial ns) (IsSerial ns) ⊥
 
 -- in any unit of a program, at any number of slots
 module _ (p : plain.Program) (ranks : ℕ → ℕ) (rank : ℕ) (shapes : List (List Dim)) (slots : ℕ) (sorts : List (List ℕ × Sort)) (s : Surroundings) where
@@ -123,13 +124,13 @@ module _ (p : plain.Program) (ranks : ℕ → ℕ) (rank : ℕ) (shapes : List (
   pub record Ends (k : Progress) (r : plain.Stmt × Progress) : Type 0 where
     pub grows : length k.texts ≤ length (r.1.texts)
     pub fits : length (r.1.texts) ≤ length p.texts → Fits (r.0)
-    pub only : IsSerialStmt r.0
+    pub only : Allowed s.slots r.0
 
   pub nothing_ends : (k : Progress) → Ends k (plain.If plain.Skip, k)
   nothing_ends k = record { grows = omega arith; fits = λ h. tt; only = tt }
 
-  pub form_ends : (f : PForm) → AllGood (form_uses f) → (line : ℕ) (k : Progress) → Ends k (formed f line s k)
-  form_ends (FAssign spot value) g line k =
+  pub form_ends : (f : PForm) → FormPlaced s.slots f → AllGood (form_uses f) → (line : ℕ) (k : Progress) → Ends k (formed f line s k)
+  form_ends (FAssign spot value) placed g line k =
       let n : ℕ = (resolved_in s (plains spot.1) k.sites).1 in
       record {
         grows = omega arith;
@@ -139,17 +140,17 @@ module _ (p : plain.Program) (ranks : ℕ → ℕ) (rank : ℕ) (shapes : List (
         );
         only = tt;
       }
-  form_ends (FLogicalIf cond place simple) g line k =
+  form_ends (FLogicalIf cond place simple) placed g line k =
       let n : ℕ = (resolved s cond k.sites).1 in
-      let inner : Ends (at_site n k) (formed simple line s (at_site n k)) = form_ends simple (right (tree_uses cond) (form_uses simple) g) line (at_site n k) in
+      let inner : Ends (at_site n k) (formed simple line s (at_site n k)) = form_ends simple placed (right (tree_uses cond) (form_uses simple) g) line (at_site n k) in
       record {
         grows = inner.grows;
         fits = λ t. (fitting.tree_fits p.objects shapes slots sorts s cond (left (tree_uses cond) (form_uses simple) g) k.sites, (inner.fits t, tt), tt);
         only = ((inner.only, tt), tt);
       }
-  form_ends (FPrint shs) g line k =
+  form_ends (FPrint shs) placed g line k =
       let ended : ItemsEnd k (items s shs k) = items_end shs g k in
-      record { grows = ended.grows; fits = λ t. all_from (ItemFits p.objects shapes slots (length p.texts)) ((items s shs k).0) (ended.fits t); only = tt }
-  form_ends (FRead spots) g line k =
-      record { grows = omega arith; fits = λ t. all_from (TargetFits p.objects shapes slots) ((targets s spots k.sites).0) (targets_fit spots g k.sites); only = tt }
-  form_ends _ g line k = nothing_ends k
+      record { grows = ended.grows; fits = λ t. all_from (ItemFits p.objects shapes slots (length p.texts)) ((items s shs k).0) (ended.fits t); only = placed }
+  form_ends (FRead spots) placed g line k =
+      record { grows = omega arith; fits = λ t. all_from (TargetFits p.objects shapes slots) ((targets s spots k.sites).0) (targets_fit spots g k.sites); only = placed }
+  form_ends _ placed g line k = nothing_ends k

@@ -15,9 +15,11 @@ use Rattle.cdc_names.specs.Duplicates.{duplicate_in, dummy_names, slot_lists}
 use Rattle.cdc_names.specs.NotConstant.{not_constant_in}
 use Rattle.cdc_names.specs.Shapes.{shape_in}
 use Rattle.cdc_names.specs.DoVariables.{do_variable_in}
+use Rattle.cdc_names.specs.DoallBodies.{doall_body_in}
+use Rattle.cdc_names.specs.Privates.{not_private_in}
 use Rattle.cdc_check.specs.declared.progress.Progress.{Progress}
 use Rattle.cdc_check.specs.declared.refusal.CheckRefusal.{CheckRefusal}
-use Rattle.cdc_check.specs.declared.refusal.CheckRefusal.TheVariants.{Undeclared, Duplicate, NotConstant, Shape, DoVariable, TooMany}
+use Rattle.cdc_check.specs.declared.refusal.CheckRefusal.TheVariants.{Undeclared, Duplicate, NotConstant, Shape, DoVariable, DoallBody, NotPrivate, TooMany}
 use Rattle.cdc_check.specs.Threads.{each}
 use Rattle.cdc_check.specs.Layout.{layout}
 use Rattle.cdc_check.specs.Refusals.{or_else}
@@ -30,7 +32,9 @@ names_refused us ss =
     (or_else (duplicate_in us) (λ p. Duplicate p.0 p.1)
     (or_else (first_of not_constant_in ss) NotConstant
     (or_else (first_of shape_in ss) Shape
-    (or_else (first_of do_variable_in ss) DoVariable None))))
+    (or_else (first_of do_variable_in ss) DoVariable
+    (or_else (first_of doall_body_in us) DoallBody
+    (or_else (first_of not_private_in ss) NotPrivate None))))))
 
 -- a quantity over its limit, and else what the later kinds say
 abbrev pub over : Bool → Kind → Option CheckRefusal → Option CheckRefusal

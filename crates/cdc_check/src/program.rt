@@ -1,7 +1,7 @@
 ghost use Rattle.std.specs.Prelude.{◌≡◌, ◌<◌, [], map, length, IfOk};
 ghost use Rattle.cdc_tree.specs.Units as trees;
-ghost use Rattle.cdc_prog.specs.Resolved.{IsResolved, IsSerial};
-ghost use Rattle.cdc_prog.specs.Premises.{KeepsLoopVariables};
+ghost use Rattle.cdc_prog.specs.Iterations.{HasDoallNumbers, KeepsPremises};
+ghost use Rattle.cdc_prog.specs.Resolved.{HasNoCall};
 ghost use Rattle.cdc_prog.specs.Translation.{program_of, unit_of};
 ghost use Rattle.cdc_check.specs.Built.{AreBuilt};
 ghost use Rattle.cdc_check.specs.Units.{whole};
@@ -68,18 +68,20 @@ fn program(alloc: Global, units: &[UnitText]) -> Result<Program, CheckRefusal>
 }
 
 /// The resolved program of units, or the first refusal in the order of the kinds; within a kind the
-/// place that stands first. SUBROUTINE, CALL and DOALL are not built yet.
+/// place that stands first. SUBROUTINE and CALL are not built yet.
 pub fn check(alloc: Global, units: &List<UnitText>) -> Result<Program, CheckRefusal>
     requires built { AreBuilt (map trees.unit units.now) }
     requires some { 0 < length units.now }
     ensures answer { Answers program_of result (checked (map trees.unit units.now)) }
 
-    // Each access of an accepted program lies in its memory, and it forks and calls nowhere.
-    ensures resolved { IfOk result (λ p. IsResolved (program_of p)) }
-    ensures serial { IfOk result (λ p. IsSerial (program_of p)) }
+    // The iterations of its DOALL loops can be tested apart: each access of an accepted program lies
+    // in its memory, a DOALL stores in its private scalars and in array elements alone, and inside a
+    // DO or DOALL nothing stores in its variable (ISO/IEC 1539:1991, section 8.1.4.4.2).
+    ensures premises { IfOk result (λ p. KeepsPremises (program_of p)) }
 
-    // Inside a DO nothing stores in its variable (ISO/IEC 1539:1991, section 8.1.4.4.2).
-    ensures keeps { IfOk result (λ p. KeepsLoopVariables (program_of p)) }
+    // It calls nowhere, and its DOALL loops are numbered from 1.
+    ensures calls { IfOk result (λ p. HasNoCall (program_of p)) }
+    ensures doalls { IfOk result (λ p. HasDoallNumbers (program_of p)) }
 {
     program(alloc, units.as_slice())
 }

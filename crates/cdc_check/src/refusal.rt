@@ -17,7 +17,8 @@ pub enum CheckRefusal {
     DoVariable(Place),
     /// A statement in the body of a DOALL that is no assignment, IF or DO.
     DoallBody(Place),
-    /// A scalar is changed in the body of a DOALL in which it is not private.
+    /// A scalar is assigned or is the variable of a DO in the body of a DOALL in which it is not
+    /// private. The index of the DOALL counts so.
     NotPrivate(Place),
     /// A CALL of no subroutine.
     NoUnit(Place),

@@ -13,8 +13,8 @@ ghost use Rattle.cdc_check.specs.Refusals.{Stands};
 use crate::refusal::CheckRefusal;
 use cdc_base::List;
 use cdc_names::{
-    Label, Scope, first_do_variable, first_duplicate, first_not_constant, first_shape,
-    first_undeclared, slot_lists,
+    Label, Scope, first_do_variable, first_doall_body, first_duplicate, first_not_constant,
+    first_not_private, first_shape, first_undeclared, slot_lists,
 };
 use cdc_prog::{Kind, limit};
 use cdc_tree::{Form, UnitText};
@@ -38,6 +38,12 @@ pub fn refuse_names(alloc: Global, units: &[UnitText], scopes: &[Scope]) -> Resu
     }
     if let Some(p) = first_do_variable(alloc, scopes)? {
         return Err(CheckRefusal::DoVariable(p));
+    }
+    if let Some(p) = first_doall_body(units) {
+        return Err(CheckRefusal::DoallBody(p));
+    }
+    if let Some(p) = first_not_private(alloc, scopes)? {
+        return Err(CheckRefusal::NotPrivate(p));
     }
     Ok(())
 }

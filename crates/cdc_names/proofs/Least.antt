@@ -7,15 +7,17 @@ use Rattle.cdc_tree.specs.declared.tree.Named.{Named}
 use Rattle.cdc_tree.specs.Forms.{PBound}
 use Rattle.cdc_names.specs.declared.name_use.Role.{Role}
 use Rattle.cdc_names.specs.Declarations.{Declares}
+use Rattle.cdc_names.specs.DoallBodies.{misplaced, body_inside, doall_body_in}
 use Rattle.cdc_names.specs.DoVariables.{opened_after, spoiled, spoiled_from, do_variable_in}
 use Rattle.cdc_names.specs.Duplicates.{before_pair, sooner_pair, twice, first_pair, name_lists}
 use Rattle.cdc_names.specs.NotConstant.{not_constant, optional_not_constant, bound_not_constant, declares_no_constant, not_constants}
 use Rattle.cdc_names.specs.Places.{before, sooner, first_of, joined}
+use Rattle.cdc_names.specs.Privates.{shared, shared_from, not_private_in}
 use Rattle.cdc_names.specs.Scopes.{PScope, known_after}
 use Rattle.cdc_names.specs.Shapes.{misused, misshapen, shape_in}
 use Rattle.cdc_names.specs.Undeclared.{undeclared, undeclared_in}
 use Rattle.cdc_names.specs.Used.{Used}
-use Rattle.cdc_names.specs.Firsts.{Finds, IsFirst, undeclareds, bound_faults, declares_faults, constant_faults, shape_faults, spoils, FirstsStandFirst}
+use Rattle.cdc_names.specs.Firsts.{Finds, IsFirst, undeclareds, bound_faults, declares_faults, constant_faults, shape_faults, spoils, misfits, shares, FirstsStandFirst}
 
 found_more : {P : Type 0} (os qs : List (Option P)) (p : P) → Finds (os ++ qs) p → Finds os p ⊎ Finds qs p
 found_more [] qs p f = inr f
@@ -141,6 +143,12 @@ first_spoils os (u ∷ us) =
     append_place (spoiled os u ∷ []) (spoils (opened_after os u.role u.name) us) (spoiled os u) (spoiled_from (opened_after os u.role u.name) us)
     (one_place (spoiled os u)) (first_spoils (opened_after os u.role u.name) us)
 
+first_shares : (os : List (List ℕ × Role)) (us : List Used) → IsFirst before (shares os us) (shared_from os us)
+first_shares os [] = nothing
+first_shares os (u ∷ us) =
+    append_place (shared os u ∷ []) (shares (opened_after os u.role u.name) us) (shared os u) (shared_from (opened_after os u.role u.name) us)
+    (one_place (shared os u)) (first_shares (opened_after os u.role u.name) us)
+
 -- ---- pairs of places
 
 place_further : (p q r : Place) → before q p ≡ false → before r q ≡ false → before r p ≡ false
@@ -213,4 +221,6 @@ stand_first = record {
   not_constant = first_joined (λ s. constant_faults [] s.declarations) (λ s. not_constants [] s.declarations) (λ s. first_constants [] s.declarations);
   shape = first_joined shape_faults shape_in first_shapes;
   do_variable = first_joined (λ s. spoils [] s.uses) do_variable_in (λ s. first_spoils [] s.uses);
+  doall_body = first_joined misfits doall_body_in (λ u. first_map misplaced (body_inside u.body));
+  not_private = first_joined (λ s. shares [] s.uses) not_private_in (λ s. first_shares [] s.uses);
 }

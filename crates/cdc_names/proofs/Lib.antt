@@ -1,5 +1,6 @@
 pub mod Lookup
 pub mod Nexts
 pub mod Firsts
+pub mod Bodies
 pub mod Others
 pub mod Least

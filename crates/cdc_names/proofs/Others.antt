@@ -1,5 +1,5 @@
 -- What the definitions give for the forms that they do not name.
-use Rattle.std.proofs.Common.{◌≡◌, List, [], refl, ap, rules}
+use Rattle.std.proofs.Common.{◌≡◌, false, List, [], refl, ap, rules}
 use Rattle.cdc_tree.specs.declared.tree.Named.{Named}
 use Rattle.cdc_tree.specs.declared.form.Declared.{Declared}
 use Rattle.cdc_tree.specs.declared.form.Define.{Define}
@@ -8,6 +8,7 @@ use Rattle.cdc_tree.specs.declared.form.Form.{Form, Program, Subroutine, Integer
 use Rattle.cdc_tree.specs.Forms.{form}
 use Rattle.cdc_tree.proofs.Logical.{form_logical}
 use Rattle.cdc_names.specs.Declarations.{declared_by}
+use Rattle.cdc_names.specs.DoallBodies.{is_doall}
 use Rattle.cdc_names.specs.Duplicates.{slot_names, dummy_names, unit_name}
 use Rattle.cdc_names.specs.Uses.{closing_uses}
 
@@ -38,3 +39,8 @@ no_closing (Do l) counted other = absurd (counted l refl)
 no_closing (Doall l names) counted other = absurd (other l names refl)
 no_closing (LogicalIf' cond p place simple) counted other = ap closing_uses (form_logical cond p place simple)
 no_closing _ counted other = search (rules, the_lemmas)
+
+pub no_doall : (f : Form) → ((l : Loop) (names : List Named) → f ≡ Doall l names → ⊥) → is_doall (form f) ≡ false
+no_doall (Doall l names) other = absurd (other l names refl)
+no_doall (LogicalIf' cond p place simple) other = ap is_doall (form_logical cond p place simple)
+no_doall _ other = search (rules, the_lemmas)

@@ -5,10 +5,12 @@ use Rattle.cdc_tree.specs.Forms.{PBound}
 use Rattle.cdc_tree.specs.Units.{PUnit}
 use Rattle.cdc_names.specs.declared.name_use.Role.{Role}
 use Rattle.cdc_names.specs.Declarations.{Declares}
+use Rattle.cdc_names.specs.DoallBodies.{misplaced, body_inside, doall_body_in}
 use Rattle.cdc_names.specs.DoVariables.{opened_after, spoiled, do_variable_in}
 use Rattle.cdc_names.specs.Duplicates.{before_pair, twice, name_lists, duplicate_in}
 use Rattle.cdc_names.specs.NotConstant.{not_constant, optional_not_constant, not_constant_in}
 use Rattle.cdc_names.specs.Places.{before, first_of, joined}
+use Rattle.cdc_names.specs.Privates.{shared, not_private_in}
 use Rattle.cdc_names.specs.Scopes.{PScope, known_after}
 use Rattle.cdc_names.specs.Shapes.{misused, misshapen, shape_in}
 use Rattle.cdc_names.specs.Undeclared.{undeclared, undeclared_in}
@@ -45,6 +47,14 @@ abbrev pub spoils : List (List ℕ × Role) → List Used → List (Option Place
 spoils os [] = []
 spoils os (u ∷ us) = spoiled os u ∷ spoils (opened_after os u.role u.name) us
 
+-- every statement in the bodies of DOALL loops
+abbrev pub misfits : PUnit → List (Option Place)
+misfits u = map misplaced (body_inside u.body)
+
+abbrev pub shares : List (List ℕ × Role) → List Used → List (Option Place)
+shares os [] = []
+shares os (u ∷ us) = shared os u ∷ shares (opened_after os u.role u.name) us
+
 -- in all units
 abbrev pub FindsFirst : (PScope → List (Option Place)) → (PScope → Option Place) → Type 0
 FindsFirst found first = (ss : List PScope) → IsFirst before (joined (map found ss)) (first_of first ss)
@@ -55,3 +65,5 @@ pub record FirstsStandFirst : Type 0 where
   pub not_constant : FindsFirst (λ s. constant_faults [] s.declarations) not_constant_in
   pub shape : FindsFirst shape_faults shape_in
   pub do_variable : FindsFirst (λ s. spoils [] s.uses) do_variable_in
+  pub doall_body : (us : List PUnit) → IsFirst before (joined (map misfits us)) (first_of doall_body_in us)
+  pub not_private : FindsFirst (λ s. shares [] s.uses) not_private_in

@@ -11,4 +11,6 @@ pub mod Duplicates
 pub mod NotConstant
 pub mod Shapes
 pub mod DoVariables
+pub mod DoallBodies
+pub mod Privates
 pub mod Firsts
