@@ -28,6 +28,8 @@ use Rattle.cdc_names.specs.Duplicates.{duplicate_in, dummy_names, slot_lists}
 use Rattle.cdc_names.specs.NotConstant.{not_constant_in}
 use Rattle.cdc_names.specs.Shapes.{shape_in}
 use Rattle.cdc_names.specs.DoVariables.{do_variable_in}
+use Rattle.cdc_names.specs.DoallBodies.{doall_body_in}
+use Rattle.cdc_names.specs.Privates.{not_private_in}
 use Rattle.cdc_check.specs.declared.progress.Progress.{Progress}
 use Rattle.cdc_check.specs.declared.progress.Shape.{Shape}
 use Rattle.cdc_check.specs.Threads.{each}
@@ -36,7 +38,7 @@ use Rattle.cdc_check.specs.Units.{Whole, units_from, nothing_yet, main_from}
 use Rattle.cdc_check.specs.Check.{names_refused, counts_refused, over, unless_refused, with_layout, finished, checked}
 use Rattle.cdc_check.specs.Refusals.{or_else, Answers}
 use Rattle.cdc_compile.specs.declared.refusal.Refusal.{Refusal}
-use Rattle.cdc_compile.specs.declared.refusal.Refusal.TheVariants.{Lex, Parse, Check, Memory}
+use Rattle.cdc_compile.specs.declared.refusal.Refusal.TheVariants.{Lex, Parse, Check, Conflict, Memory}
 use Rattle.cdc_compile.specs.Refusals.{of_lex, of_parse, of_check, IsNamed}
 use Rattle.cdc_compile.specs.Source.{HasLines, HasStatements, HasBuiltUnits, IsProgramOf}
 use Rattle.cdc_compile.proofs.Ascending.{statements_in_order}
@@ -67,14 +69,16 @@ statements_answered source ss p.Memory has is = tt
 
 -- ---- the check never says that a source is too long
 
-names_never : (a : Option Place) (b : Option (Place × Place)) (d e f : Option Place)
-    → or_else a c.Undeclared (or_else b (λ pair. c.Duplicate pair.0 pair.1) (or_else d c.NotConstant (or_else e c.Shape (or_else f c.DoVariable None)))) ≡ Some (c.TooMany k.Source) → ⊥
-names_never (Some x) b d e f is = cc
-names_never None (Some x) d e f is = cc
-names_never None None (Some x) e f is = cc
-names_never None None None (Some x) f is = cc
-names_never None None None None (Some x) is = cc
-names_never None None None None None is = cc
+names_never : (a : Option Place) (b : Option (Place × Place)) (d e f g h : Option Place)
+    → or_else a c.Undeclared (or_else b (λ pair. c.Duplicate pair.0 pair.1) (or_else d c.NotConstant (or_else e c.Shape (or_else f c.DoVariable (or_else g c.DoallBody (or_else h c.NotPrivate None)))))) ≡ Some (c.TooMany k.Source) → ⊥
+names_never (Some x) b d e f g h is = cc
+names_never None (Some x) d e f g h is = cc
+names_never None None (Some x) e f g h is = cc
+names_never None None None (Some x) f g h is = cc
+names_never None None None None (Some x) g h is = cc
+names_never None None None None None (Some x) h is = cc
+names_never None None None None None None (Some x) is = cc
+names_never None None None None None None None is = cc
 
 counts_never : (a b d : Bool) → over a k.Units (over b k.Dummies (over d k.Privates None)) ≡ Some (c.TooMany k.Source) → ⊥
 counts_never true b d is = cc
@@ -118,7 +122,7 @@ checked_never : (us : List PUnit) → NotLong (checked us)
 checked_never us =
     let ss = map scope_of us in
     unless_never (names_refused us ss) (counts_refused us) (finished (main_from 0 us) (each (units_from 0 us ss) nothing_yet))
-    (names_never (first_of undeclared_in ss) (duplicate_in us) (first_of not_constant_in ss) (first_of shape_in ss) (first_of do_variable_in ss))
+    (names_never (first_of undeclared_in ss) (duplicate_in us) (first_of not_constant_in ss) (first_of shape_in ss) (first_of do_variable_in ss) (first_of doall_body_in us) (first_of not_private_in ss))
     (counts_never (nat_lt 64 (length us)) (list_any (λ u. nat_lt 32 (length (dummy_names u.head.form))) us) (list_any (λ ns. nat_lt 33 (length ns)) (slot_lists us)))
     (finished_never (main_from 0 us) (each (units_from 0 us ss) nothing_yet))
 
@@ -176,4 +180,5 @@ is_named source (Check (c.Recursive at)) is other = tt
 is_named source (Check (c.Aliased at second)) is other = tt
 is_named source (Check (c.TooMany kind)) is other = tt
 is_named source (Check c.Memory) is other = absurd is
+is_named source (Conflict at second) is other = tt
 is_named source Memory is other = absurd (other refl)

@@ -1,6 +1,7 @@
 pub mod Ascending
 pub mod Passing
 pub mod Answered
+pub mod Looped
 pub mod Nested
 pub mod OneUnits
 pub mod OneLines
@@ -10,6 +11,8 @@ pub mod Waiting
 pub mod Standing
 pub mod Open
 pub mod Roomy
+pub mod Slots
 pub mod RoomLaws
+pub mod Conflicting
 pub mod Coded
 pub mod Sound

@@ -1,6 +1,7 @@
 -- A source has one answer: each stage answers it in one way, or goes on in one way.
-use Rattle.std.proofs.Common.{◌≡◌, ℕ, ◌<◌, ◌≤◌, ◌⊎◌, List, length, None, Result, Ok, Err, refl, sym, ap, subst, ◌∙◌, arith, inl, inr}
+use Rattle.std.proofs.Common.{◌≡◌, ℕ, ◌<◌, ◌≤◌, ◌⊎◌, List, length, Option, Some, None, Result, Ok, Err, refl, sym, ap, subst, ◌∙◌, arith, inl, inr}
 use Rattle.std.specs.Prelude.{◌≢◌}
+use Rattle.cdc_base.specs.declared.place.Place.{Place}
 use Rattle.cdc_token.specs.declared.token.Line.{Line}
 use Rattle.cdc_token.specs.declared.token.LexRefusal.{LexRefusal}
 use Rattle.cdc_token.specs.declared.token.LexRefusal.TheVariants as l
@@ -21,9 +22,10 @@ use Rattle.cdc_check.specs.declared.refusal.CheckRefusal.TheVariants as c
 use Rattle.cdc_check.specs.Built.{IsUnbuilt, AllBuilt}
 use Rattle.cdc_check.specs.Check.{checked}
 use Rattle.cdc_compile.specs.declared.refusal.Refusal.{Refusal}
-use Rattle.cdc_compile.specs.declared.refusal.Refusal.TheVariants.{Lex, Parse, Check, Memory}
+use Rattle.cdc_compile.specs.declared.refusal.Refusal.TheVariants.{Lex, Parse, Check, Conflict, Memory}
 use Rattle.cdc_compile.specs.Unbuilt.{IsLeastUnbuilt}
 use Rattle.cdc_compile.specs.Source.{HasLines, HasStatements, HasUnits, HasBuiltUnits, IsLexRefused, IsParseRefused, IsCheckRefused, IsProgramOf}
+use Rattle.cdc_compile.specs.Conflicts.{conflict_in}
 use Rattle.cdc_compile.specs.Laws.{HasOneAnswer}
 use Rattle.cdc_compile.proofs.OneLines.{lines_one, lex_one, lines_or_refusal, statements_one, statements_or_refusal, lines_one_refusal}
 use Rattle.cdc_compile.proofs.OneUnits.{each_at, units_one, units_or_refusal, units_one_refusal}
@@ -46,9 +48,14 @@ unbuilt_one a n m f g = let low = unbuilt_least a n m f g in (let high = unbuilt
 
 -- ---- how an answer came about, stage by stage
 
+-- of the test of DOALLs
+abbrev tested : plain.Program → Option (Place × Place) → Answer
+tested program None = Ok program
+tested program (Some pair) = Err (Conflict pair.0 pair.1)
+
 -- of the check
 abbrev answer_of : Result plain.Program CheckRefusal → Answer
-answer_of (Ok program) = Ok program
+answer_of (Ok program) = tested program (conflict_in program)
 answer_of (Err refusal) = Err (Check refusal)
 
 record ByCheck (ss : List PStatement) (us : List PUnit) (a : Answer) : Type 0 where
@@ -172,10 +179,12 @@ check_way source (c.TooMany k.Paths) is = checked_way source (c.TooMany k.Paths)
 check_way source c.Memory is = absurd is
 
 way : (source : List ℕ) (a : Answer) → IsProgramOf source a → a ≢ Err Memory → Way source a
-way source (Ok program) is other = with_built source (Ok program) is.0 is.1 (ap answer_of (sym is.2))
+way source (Ok program) is other = with_built source (Ok program) is.0.units is.0.has_units (sym (ap answer_of is.0.accepted ∙ ap (tested program) is.1))
 way source (Err (Lex r)) is other = lex_way source r is
 way source (Err (Parse r)) is other = parse_way source r is
 way source (Err (Check r)) is other = check_way source r is
+way source (Err (Conflict first second)) is other =
+    with_built source (Err (Conflict first second)) is.1.units is.1.has_units (sym (ap answer_of is.1.accepted ∙ ap (tested is.0) is.2))
 way source (Err Memory) is other = absurd (other refl)
 
 -- ---- one way

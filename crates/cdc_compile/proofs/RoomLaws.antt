@@ -14,14 +14,14 @@ use Rattle.cdc_prog.specs.Plain as plain
 use Rattle.cdc_prog.specs.Plain.{Stmt, Skip, Seq, Assign, If, Arm, Do, Doall, Call, Print, Read}
 use Rattle.cdc_prog.specs.Translation.{unit_of, program_of}
 use Rattle.cdc_prog.specs.Numbered.{calls_in, calls_numbered, units_numbered, program_numbered, unit_call_numbers, calls_in_units}
-use Rattle.cdc_prog.specs.Bodies.{HasOnly}
-use Rattle.cdc_prog.specs.Resolved.{IsSerial}
-use Rattle.cdc_prog.specs.Units.{body_in, body_of}
+use Rattle.cdc_prog.specs.Units.{body_in}
 use Rattle.cdc_prog.proofs.Numbered.{as_many, unit_numbers_in_order}
 use Rattle.cdc_names.specs.Duplicates.{duplicate_in, dummy_names, slot_lists}
+use Rattle.cdc_names.specs.DoallBodies.{doall_body_in}
 use Rattle.cdc_names.specs.DoVariables.{do_variable_in}
 use Rattle.cdc_names.specs.NotConstant.{not_constant_in}
 use Rattle.cdc_names.specs.Places.{first_of}
+use Rattle.cdc_names.specs.Privates.{not_private_in}
 use Rattle.cdc_names.specs.Scopes.{PScope, scope_of}
 use Rattle.cdc_names.specs.Shapes.{shape_in}
 use Rattle.cdc_names.specs.Undeclared.{undeclared_in}
@@ -38,11 +38,12 @@ use Rattle.cdc_check.specs.Check.{names_refused, counts_refused, over, unless_re
 use Rattle.cdc_check.proofs.Extents.{EachNone, none_first}
 use Rattle.cdc_code.specs.Template.{HasCallNumbers}
 use Rattle.cdc_code.specs.Room.{SlotsRoom, HasRoom}
-use Rattle.cdc_compile.specs.Source.{HasUnits, IsProgramOf}
+use Rattle.cdc_compile.specs.Source.{HasBuiltUnits, HasUnits, IsChecked}
 use Rattle.cdc_compile.proofs.Narrow.{body_narrow}
 use Rattle.cdc_compile.proofs.Standing.{AreShallow, shallow_left, shallow_right, lines_shallow}
 use Rattle.cdc_compile.proofs.Open.{BodyFits, units_fit}
 use Rattle.cdc_compile.proofs.Roomy.{Roomy, body_room}
+use Rattle.cdc_compile.proofs.Slots.{AreFew, are_few, numbered_units_slots}
 
 -- ---- what an accepted program passed
 
@@ -52,7 +53,8 @@ or_none (Some a) kind later h = cc
 
 no_shape : (us : List PUnit) (ss : List PScope) → names_refused us ss ≡ None → first_of shape_in ss ≡ None
 no_shape us ss h =
-    let last : Option CheckRefusal = or_else (first_of do_variable_in ss) refusal.DoVariable None in
+    let body : Option CheckRefusal = or_else (first_of doall_body_in us) refusal.DoallBody (or_else (first_of not_private_in ss) refusal.NotPrivate None) in
+    let last : Option CheckRefusal = or_else (first_of do_variable_in ss) refusal.DoVariable body in
     let fourth : Option CheckRefusal = or_else (first_of shape_in ss) refusal.Shape last in
     let third : Option CheckRefusal = or_else (first_of not_constant_in ss) refusal.NotConstant fourth in
     let second : Option CheckRefusal = or_else (duplicate_in us) (λ p. refusal.Duplicate p.0 p.1) third in
@@ -61,15 +63,22 @@ no_shape us ss h =
     let c : (first_of not_constant_in ss ≡ None) × (fourth ≡ None) = or_none (first_of not_constant_in ss) refusal.NotConstant fourth b.1 in
     (or_none (first_of shape_in ss) refusal.Shape last c.1).0
 
-not_over : (b : Bool) (which : Kind) (later : Option CheckRefusal) → over b which later ≡ None → b ≡ false
+not_over : (b : Bool) (which : Kind) (later : Option CheckRefusal) → over b which later ≡ None → (b ≡ false) × (later ≡ None)
 not_over true which later h = cc
-not_over false which later h = refl
+not_over false which later h = (refl, h)
 
-few_units : (us : List PUnit) → counts_refused us ≡ None → length us ≤ 64
-few_units us h =
-    let test : nat_lt 64 (length us) ≡ false =
-    not_over (nat_lt 64 (length us)) kind.Units (over (list_any (λ u. nat_lt 32 (length (dummy_names u.head.form))) us) kind.Dummies (over (list_any (λ ns. nat_lt 33 (length ns)) (slot_lists us)) kind.Privates None)) h in
-    not_more (length us) test
+-- what no count refuses
+pub record Few (us : List PUnit) : Type 0 where
+  pub units : length us ≤ 64
+  pub slots : AreFew (slot_lists us)
+
+few : (us : List PUnit) → counts_refused us ≡ None → Few us
+few us h =
+    let many : Bool = list_any (λ ns. nat_lt 33 (length ns)) (slot_lists us) in
+    let dummies : Bool = list_any (λ u. nat_lt 32 (length (dummy_names u.head.form))) us in
+    let first : (nat_lt 64 (length us) ≡ false) × (over dummies kind.Dummies (over many kind.Privates None) ≡ None) = not_over (nat_lt 64 (length us)) kind.Units (over dummies kind.Dummies (over many kind.Privates None)) h in
+    let second : (dummies ≡ false) × (over many kind.Privates None ≡ None) = not_over dummies kind.Dummies (over many kind.Privates None) first.1 in
+    record { units = not_more (length us) first.0; slots = are_few (slot_lists us) (not_over many kind.Privates None second.1).0 }
   where
     not_more : (n : ℕ) → nat_lt 64 n ≡ false → n ≤ 64
     not_more n h = grind arith
@@ -97,7 +106,7 @@ resolved_from us = each (units_from 0 us (map scope_of us)) nothing_yet
 
 pub record Passed (us : List PUnit) (q : plain.Program) : Type 0 where
   pub shapes : EachNone shape_in (map scope_of us)
-  pub few : length us ≤ 64
+  pub few : Few us
   pub units_are : q.units ≡ units_numbered 0 ((resolved_from us).0)
 
 pub passed : (us : List PUnit) (q : plain.Program) → checked us ≡ Ok q → Passed us q
@@ -108,7 +117,7 @@ passed us q h =
     let a : (names_refused us ss ≡ None) × (unless_refused (counts_refused us) (finished main r) ≡ Ok q) = unless_none (names_refused us ss) (unless_refused (counts_refused us) (finished main r)) q h in
     let b : (counts_refused us ≡ None) × (finished main r ≡ Ok q) = unless_none (counts_refused us) (finished main r) q a.1 in
     let c : with_layout main r.0 r.1.progress (layout r.1.objects) ≡ Ok q = unless_true (nat_lt 1024 (length r.1.objects)) (refusal.TooMany kind.Objects) (with_layout main r.0 r.1.progress (layout r.1.objects)) q b.1 in
-    record { shapes = none_first shape_in ss (no_shape us ss a.0); few = few_units us b.0; units_are = units_laid main r.0 r.1.progress (layout r.1.objects) q c }
+    record { shapes = none_first shape_in ss (no_shape us ss a.0); few = few us b.0; units_are = units_laid main r.0 r.1.progress (layout r.1.objects) q c }
 
 -- ---- units
 
@@ -156,40 +165,28 @@ roomy_at [] h i = tt
 roomy_at (u ∷ us) h zero = h.0
 roomy_at (u ∷ us) h (suc i) = roomy_at us h.1 i
 
--- where no DOALL stands, none has slots
-serial_slots : (t : Stmt) → HasOnly (Unit {0}) ⊥ ⊥ t → SlotsRoom t
-serial_slots Skip h = tt
-serial_slots (Seq a b) h = (serial_slots a h.0, serial_slots b h.1)
-serial_slots (Assign line target value) h = tt
-serial_slots (If arms) h = serial_slots arms h
-serial_slots (Arm line c body other) h = (serial_slots body h.0, serial_slots other h.1)
-serial_slots (Do k first body again bump) h = serial_slots body h
-serial_slots (Doall k number slots body) h = absurd h
-serial_slots (Call line number unit actuals) h = tt
-serial_slots (Print line items) h = tt
-serial_slots (Read line targets) h = tt
-
 -- ---- the laws
 
 -- the program of units whose trees are within the limits, and that open no 65th block
-units_room : (us : List PUnit) (q : plain.Program) → AreUnits us → AreShallow (written_out us) → first_deep 0 (written_out us) ≡ None → checked us ≡ Ok q → IsSerial q → HasRoom q
-units_room us q are shallow low h serial =
+units_room : (us : List PUnit) (q : plain.Program) → AreUnits us → AreShallow (written_out us) → first_deep 0 (written_out us) ≡ None → checked us ≡ Ok q → HasRoom q
+units_room us q are shallow low h =
     let done : Passed us q = passed us q h in
     let units : List plain.ProgramUnit = (resolved_from us).0 in
     let roomy : AreRoomy (units_numbered 0 units) = units_numbered_roomy 0 units (units_roomy us 0 nothing_yet done.shapes shallow (units_fit us are low)) in
     let count : length q.units ≡ length us = ap length done.units_are ∙ as_many 0 units ∙ units_length us 0 nothing_yet in
     record {
-      units = omega (arith, count, done.few);
-      slots = λ u. serial_slots (body_of q u) (serial u);
+      units = omega (arith, count, done.few.units);
+      slots = λ u. subst (λ (vs : List plain.ProgramUnit). SlotsRoom (body_in (slice_get vs u))) (sym done.units_are) (numbered_units_slots us nothing_yet done.few.slots u);
       bodies = λ u. subst (λ (vs : List plain.ProgramUnit). Roomy 0 (body_in (slice_get vs u))) (sym done.units_are) (roomy_at (units_numbered 0 units) roomy u);
     }
 
-pub has_room : (source : List ℕ) (q : plain.Program) → IsProgramOf source (Ok q) → IsSerial q → HasRoom q
-has_room source q h serial =
-    let us : List PUnit = h.0 in
-    let has : HasUnits source h.1.statements us = h.1.has_units in
-    let shallow : AreShallow (written_out us) = subst AreShallow has.are_units.parts (lines_shallow h.1.statements has.has_statements.lines has.has_statements.are_statements) in
-    units_room us q has.are_units.are_units shallow (subst (λ ss. first_deep 0 ss ≡ None) has.are_units.parts has.shallow) h.2 serial
+pub has_room : (source : List ℕ) (q : plain.Program) → IsChecked source q → HasRoom q
+has_room source q h =
+    let us : List PUnit = h.units in
+    let built : HasBuiltUnits source us = h.has_units in
+    let has : HasUnits source built.statements us = built.has_units in
+    let shallow : AreShallow (written_out us) = subst AreShallow has.are_units.parts (lines_shallow built.statements has.has_statements.lines has.has_statements.are_statements) in
+    units_room us q has.are_units.are_units shallow (subst (λ ss. first_deep 0 ss ≡ None) has.are_units.parts has.shallow) h.accepted
 
 -- the CALLs of a program are numbered from 1, however many it has
 pub numbers : (p : plain.Program) → HasCallNumbers (program_numbered p)

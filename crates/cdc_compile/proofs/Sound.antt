@@ -6,17 +6,21 @@ use Rattle.cdc_tree.specs.Units.{PUnit}
 use Rattle.cdc_nest.specs.Units.{mains}
 use Rattle.cdc_prog.specs.Plain as plain
 use Rattle.cdc_prog.specs.Numbered.{calls_in, units_numbered}
-use Rattle.cdc_prog.proofs.Numbered.{serial_numbered}
+use Rattle.cdc_prog.specs.Iterations.{KeepsPremises}
+use Rattle.cdc_prog.specs.Resolved.{HasNoCall}
+use Rattle.cdc_prog.proofs.Numbered.{without_calls}
+use Rattle.cdc_prog.proofs.Serial.{uncalled}
 use Rattle.cdc_names.specs.Scopes.{PScope}
 use Rattle.cdc_check.specs.Threads.{each, next}
 use Rattle.cdc_check.specs.Units.{Whole, unit_in, units_from, nothing_yet}
-use Rattle.cdc_check.proofs.Accepted.{accepted_is_resolved, accepted_is_serial}
+use Rattle.cdc_check.proofs.Accepted.{accepted_keeps_premises, accepted_calls_nothing, accepted_doalls_numbered}
 use Rattle.cdc_code.specs.Template.{HasCallNumbers, code_of}
 use Rattle.cdc_compile.specs.Source.{HasBuiltUnits}
 use Rattle.cdc_compile.specs.Compiled.{ordinary_marks}
 use Rattle.cdc_compile.specs.Laws.{AcceptedIsSound}
 use Rattle.cdc_compile.proofs.Nested.{are_built}
 use Rattle.cdc_compile.proofs.RoomLaws.{Passed, passed, has_room, numbers}
+use Rattle.cdc_compile.proofs.Conflicting.{no_conflict_apart}
 use Rattle.cdc_compile.proofs.Coded.{emitted_sound}
 
 -- units without dummies
@@ -40,16 +44,18 @@ some_units (u ∷ us) h = omega arith
 
 pub accepted_is_sound : AcceptedIsSound
 accepted_is_sound source p h =
-    let us : List PUnit = h.0 in
-    let has : HasBuiltUnits source us = h.1 in
+    let us : List PUnit = h.0.units in
+    let has : HasBuiltUnits source us = h.0.has_units in
     let built = are_built source us has in
-    let resolved = accepted_is_resolved us p h.2 built (some_units us has.has_units.are_units.one_main) in
-    let serial = accepted_is_serial us p h.2 built in
-    let calls : HasCallNumbers p = subst HasCallNumbers (serial_numbered p serial) (numbers p) in
-    let done : Passed us p = passed us p h.2 in
+    let some = some_units us has.has_units.are_units.one_main in
+    let premises : KeepsPremises p = accepted_keeps_premises us p h.0.accepted built some in
+    let calls : HasNoCall p = accepted_calls_nothing us p h.0.accepted built some in
+    let numbered : HasCallNumbers p = subst HasCallNumbers (without_calls p (uncalled p premises.resolved calls)) (numbers p) in
+    let apart = no_conflict_apart p premises (accepted_doalls_numbered us p h.0.accepted built some) h.1 in
+    let done : Passed us p = passed us p h.0.accepted in
     record {
-      resolved = resolved;
-      serial = serial;
+      premises = premises;
+      calls = calls;
       bare = subst Bare (sym done.units_are) (numbered_bare 0 _ (units_bare 0 us _ nothing_yet));
-      sound = emitted_sound p (ordinary_marks p.sites) (code_of p (ordinary_marks p.sites)) resolved serial calls (has_room source p h serial) refl;
+      sound = emitted_sound p (ordinary_marks p.sites p.doalls) (code_of p (ordinary_marks p.sites p.doalls)) premises apart numbered (has_room source p h.0) refl;
     }

@@ -6,7 +6,7 @@ use Rattle.cdc_tree.specs.declared.refusal.ParseRefusal.TheVariants as p
 use Rattle.cdc_check.specs.declared.refusal.CheckRefusal.{CheckRefusal}
 use Rattle.cdc_check.specs.declared.refusal.CheckRefusal.TheVariants as c
 use Rattle.cdc_compile.specs.declared.refusal.Refusal.{Refusal}
-use Rattle.cdc_compile.specs.declared.refusal.Refusal.TheVariants.{Lex, Parse, Check, Memory}
+use Rattle.cdc_compile.specs.declared.refusal.Refusal.TheVariants.{Lex, Parse, Check, Conflict, Memory}
 
 abbrev pub of_lex : LexRefusal → Refusal
 of_lex l.Memory = Memory
@@ -29,3 +29,4 @@ IsNamed (Parse p.Memory) = ⊥
 IsNamed (Parse refusal) = Unit {0}
 IsNamed (Check c.Memory) = ⊥
 IsNamed (Check refusal) = Unit {0}
+IsNamed (Conflict first second) = Unit {0}

@@ -1,5 +1,6 @@
 -- What is answered for a source: its resolved program, or the first of its refusals in the order of the stages.
-use Rattle.std.specs.Prelude.{◌≡◌, ℕ, ◌<◌, ◌≤◌, ◌⊎◌, List, length, Result, Ok, Err, None}
+use Rattle.std.specs.Prelude.{◌≡◌, ℕ, ◌<◌, ◌≤◌, ◌⊎◌, List, length, Result, Ok, Err, Some, None}
+use Rattle.cdc_base.specs.declared.place.Place.{Place}
 use Rattle.cdc_token.specs.declared.token.Line.{Line}
 use Rattle.cdc_token.specs.declared.token.LexRefusal.{LexRefusal}
 use Rattle.cdc_token.specs.declared.token.LexRefusal.TheVariants as l
@@ -19,7 +20,8 @@ use Rattle.cdc_check.specs.declared.refusal.CheckRefusal.TheVariants as c
 use Rattle.cdc_check.specs.Built.{AllBuilt}
 use Rattle.cdc_check.specs.Check.{checked}
 use Rattle.cdc_compile.specs.declared.refusal.Refusal.{Refusal}
-use Rattle.cdc_compile.specs.declared.refusal.Refusal.TheVariants.{Lex, Parse, Check, Memory}
+use Rattle.cdc_compile.specs.declared.refusal.Refusal.TheVariants.{Lex, Parse, Check, Conflict, Memory}
+use Rattle.cdc_compile.specs.Conflicts.{conflict_in}
 use Rattle.cdc_compile.specs.Unbuilt.{IsLeastUnbuilt}
 
 -- ---- a source that no stage so far refuses
@@ -46,6 +48,12 @@ pub record HasBuiltUnits (source : List ℕ) (units : List PUnit) : Type 0 where
   pub statements : List PStatement
   pub has_units : HasUnits source statements units
   pub all_built : AllBuilt statements
+
+-- the check accepts its units as this program
+pub record IsChecked (source : List ℕ) (program : plain.Program) : Type 0 where
+  pub units : List PUnit
+  pub has_units : HasBuiltUnits source units
+  pub accepted : checked units ≡ Ok program
 
 -- ---- why one is refused
 
@@ -84,10 +92,15 @@ IsCheckRefused source (c.TooMany k.Source) = limit k.Source < length source
 IsCheckRefused source c.Memory = ⊥
 IsCheckRefused source refusal = (units : List PUnit) × HasBuiltUnits source units × (checked units ≡ Err refusal)
 
--- What is answered for the source. Want of memory is free, and has one answer.
+-- its program has a DOALL with references that nothing tells apart
+abbrev pub IsConflicting : List ℕ → (first second : Place) → Type 0
+IsConflicting source first second = (program : plain.Program) × IsChecked source program × (conflict_in program ≡ Some (first, second))
+
+-- What is answered for the source: of a program that the check accepts each DOALL is tested. Want of memory is free, and has one answer.
 abbrev pub IsProgramOf : List ℕ → Result plain.Program Refusal → Type 0
-IsProgramOf source (Ok program) = (units : List PUnit) × HasBuiltUnits source units × (checked units ≡ Ok program)
+IsProgramOf source (Ok program) = IsChecked source program × (conflict_in program ≡ None)
 IsProgramOf source (Err (Lex refusal)) = IsLexRefused source refusal
 IsProgramOf source (Err (Parse refusal)) = IsParseRefused source refusal
 IsProgramOf source (Err (Check refusal)) = IsCheckRefused source refusal
+IsProgramOf source (Err (Conflict first second)) = IsConflicting source first second
 IsProgramOf source (Err Memory) = Unit {0}

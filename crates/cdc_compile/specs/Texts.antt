@@ -13,7 +13,7 @@ use Rattle.cdc_prog.specs.Limits.{limit}
 use Rattle.cdc_check.specs.declared.refusal.CheckRefusal.{CheckRefusal}
 use Rattle.cdc_check.specs.declared.refusal.CheckRefusal.TheVariants as c
 use Rattle.cdc_compile.specs.declared.refusal.Refusal.{Refusal}
-use Rattle.cdc_compile.specs.declared.refusal.Refusal.TheVariants.{Lex, Parse, Check, Memory}
+use Rattle.cdc_compile.specs.declared.refusal.Refusal.TheVariants.{Lex, Parse, Check, Conflict, Memory}
 
 abbrev pub number : ℕ → List ℕ
 number n = decimal_bytes (pos n)
@@ -84,6 +84,7 @@ abbrev pub refusal_text : Refusal → List ℕ
 refusal_text (Lex refusal) = lex_text refusal
 refusal_text (Parse refusal) = parse_text refusal
 refusal_text (Check refusal) = check_text refusal
+refusal_text (Conflict at other) = at_places (codes "Conflict") at other
 refusal_text Memory = []
 
 -- ---- the other answer

@@ -92,12 +92,26 @@ const SIGNS_STEPS: [(u32, Instr); 37] = [
     (0, Instr::Halt),
 ];
 
+const ZERO: &str = "PROGRAM ZERO\nDOALL I = 5, 4\nEND DOALL\nPRINT *, 'x'\nEND\n";
+
+const ZERO_STEPS: [(u32, Instr); 8] = [
+    (2, Instr::Const(5)),
+    (2, Instr::Const(4)),
+    (2, Instr::Const(1)),
+    (2, Instr::Fork(1, 2)),
+    (2, Instr::Join),
+    (4, Instr::Text(0)),
+    (4, Instr::Line),
+    (0, Instr::Halt),
+];
+
 #[test]
 fn a_source_has_its_code(rt: HostRuntime) -> Result<(), Fail> {
-    let cases: [(&str, &[(u32, Instr)]); 3] = [
+    let cases: [(&str, &[(u32, Instr)]); 4] = [
         (ONE, &ONE_STEPS),
         (LARGE, &LARGE_STEPS),
         (SIGNS, &SIGNS_STEPS),
+        (ZERO, &ZERO_STEPS),
     ];
     for (source, steps) in cases {
         let Ok(compiled) = compile(rt.alloc(), source.as_bytes()) else {

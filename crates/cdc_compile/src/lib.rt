@@ -5,6 +5,7 @@ mod accepted;
 mod compiled;
 #[cfg(test)]
 mod compiled_tests;
+mod conflicts;
 #[cfg(test)]
 mod forms_tests;
 mod laws;

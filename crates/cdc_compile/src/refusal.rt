@@ -1,4 +1,4 @@
-use cdc_base::NoMemory;
+use cdc_base::{NoMemory, Place};
 use cdc_check::CheckRefusal;
 use cdc_token::LexRefusal;
 use cdc_tree::ParseRefusal;
@@ -12,6 +12,8 @@ pub enum Refusal {
     Lex(LexRefusal),
     Parse(ParseRefusal),
     Check(CheckRefusal),
+    /// The first pair of references of the first DOALL that fails the dependence test.
+    Conflict(Place, Place),
     Memory,
 }
 

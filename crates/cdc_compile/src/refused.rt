@@ -157,6 +157,7 @@ pub fn write_refusal<K: Sink>(refusal: &Refusal, out: &mut K) -> Result<(), Sink
         Refusal::Lex(refusal) => write_lex(out, refusal),
         Refusal::Parse(refusal) => write_parse(out, refusal),
         Refusal::Check(refusal) => write_check(out, refusal),
+        Refusal::Conflict(first, second) => write_places(out, b"Conflict", first, second),
         Refusal::Memory => Ok(()),
     }
 }

@@ -4,13 +4,17 @@ ghost use Rattle.std.specs.Prelude.{map, Err, IfOk, IfErr};
 ghost use Rattle.std.specs.Result.{result_map_both};
 ghost use Rattle.cdc_tree.specs.Forms.{statement};
 ghost use Rattle.cdc_tree.specs.Units.{unit};
-ghost use Rattle.cdc_prog.specs.Premises.{KeepsLoopVariables};
-ghost use Rattle.cdc_prog.specs.Resolved.{IsResolved, IsSerial};
+ghost use Rattle.cdc_prog.specs.Apart.{IsApart};
+ghost use Rattle.cdc_prog.specs.Input.{Input};
+ghost use Rattle.cdc_prog.specs.Iterations.{KeepsPremises, HasDoallNumbers};
+ghost use Rattle.cdc_prog.specs.Resolved.{HasNoCall};
 ghost use Rattle.cdc_prog.specs.Translation.{program_of};
+ghost use Rattle.cdc_prog.specs.Units.{process_of};
 ghost use Rattle.cdc_code.specs.Room.{HasRoom};
 ghost use Rattle.cdc_code.specs.Template.{HasCallNumbers};
-ghost use Rattle.cdc_compile.specs.Source.{HasLines, HasStatements, HasBuiltUnits, IsProgramOf};
+ghost use Rattle.cdc_compile.specs.Source.{HasLines, HasStatements, HasBuiltUnits, IsChecked, IsProgramOf};
 
+use crate::conflicts::first_conflict;
 use crate::refusal::Refusal;
 use crate::unbuilt::first_unbuilt;
 use cdc_base::List;
@@ -53,25 +57,43 @@ fn units_of(alloc: Global, source: &[u8]) -> Result<List<UnitText>, Refusal>
     }
 }
 
+// The program that the check accepts, before its DOALLs are tested.
+fn checked_program(alloc: Global, source: &[u8]) -> Result<Program, Refusal>
+    ensures checked { IfOk result (λ p. IsChecked source.now (program_of p)) }
+    ensures refused { IfErr result (λ refusal. IsProgramOf source.now (Err refusal)) }
+    ensures premises { IfOk result (λ p. KeepsPremises (program_of p)) }
+    ensures calls { IfOk result (λ p. HasNoCall (program_of p)) }
+    ensures doalls { IfOk result (λ p. HasDoallNumbers (program_of p)) }
+{
+    let units = units_of(alloc, source)?;
+    Ok(check(alloc, &units)?)
+}
+
 /// The resolved program of a source.
 ///
 /// # Errors
 ///
 /// The first refusal: a source of more than 262,144 bytes; then those of its tokens, of its statements and of its units;
-/// then `NotAStatement` at the least line of a DOALL, SUBROUTINE or CALL, which are not built yet; then those of the check.
-/// `Memory` may come at any time.
+/// then `NotAStatement` at the least line of a SUBROUTINE or CALL, which are not built yet; then those of the check; then
+/// `Conflict` with the first failing pair of the first DOALL that has one. `Memory` may come at any time.
 pub fn program(alloc: Global, source: &[u8]) -> Result<Program, Refusal>
     ensures answer { IsProgramOf source.now (result_map_both program_of (λ refusal. refusal) result) }
 
-    // What is accepted has no DOALL and no CALL yet, and each of its accesses lies in its memory.
-    ensures resolved { IfOk result (λ p. IsResolved (program_of p)) }
-    ensures serial { IfOk result (λ p. IsSerial (program_of p)) }
-    ensures keeps { IfOk result (λ p. KeepsLoopVariables (program_of p)) }
+    // What is accepted keeps what theorems on iterations take of a program, and has no CALL yet.
+    ensures premises { IfOk result (λ p. KeepsPremises (program_of p)) }
+    ensures calls { IfOk result (λ p. HasNoCall (program_of p)) }
+    ensures doalls { IfOk result (λ p. HasDoallNumbers (program_of p)) }
+
+    // The iterations of a DOALL do not meet, wherever one is reached, whatever the input is.
+    ensures apart { IfOk result (λ p. (records : Input) → IsApart (process_of (program_of p) records)) }
 
     // A task of its code has room: no more than 64 parentheses are open at a place, and no more than 64 blocks.
     ensures room { IfOk result (λ p. HasRoom (program_of p)) }
     ensures numbered { IfOk result (λ p. HasCallNumbers (program_of p)) }
 {
-    let units = units_of(alloc, source)?;
-    Ok(check(alloc, &units)?)
+    let program = checked_program(alloc, source)?;
+    match first_conflict(alloc, &program)? {
+        None => Ok(program),
+        Some((first, second)) => Err(Refusal::Conflict(first, second)),
+    }
 }

@@ -23,7 +23,7 @@ pub(crate) fn write_answer(
 
 #[test]
 fn sources_are_answered(rt: HostRuntime) -> Result<(), Fail> {
-    let cases: [(&str, &str); 28] = [
+    let cases: [(&str, &str); 36] = [
         ("PROGRAM P\nN = 1 # 2\nEND\n", "refused BadByte at 2:7\n"),
         (
             "PROGRAM P\nPRINT *, 'ab\nEND\n",
@@ -89,8 +89,16 @@ fn sources_are_answered(rt: HostRuntime) -> Result<(), Fail> {
             "refused BadByte at 3:5\n",
         ),
         (
-            "PROGRAM P\nX = 1\nDOALL K = 1, 2\nPRINT *, K\nEND DOALL\nEND\n",
-            "refused NotAStatement at line 3\n",
+            "PROGRAM P\nDOALL K = 1, 2\nPRINT *, K\nEND DOALL\nEND\n",
+            "refused DoallBody at 3:1\n",
+        ),
+        (
+            "PROGRAM P\nDOALL K = 1, 2\nN = K\nEND DOALL\nEND\n",
+            "refused NotPrivate at 3:1\n",
+        ),
+        (
+            "PROGRAM P\nX = 1\nDOALL K = 1, 2\nCALL Q\nEND DOALL\nEND\n",
+            "refused NotAStatement at line 4\n",
         ),
         (
             "PROGRAM P\nN = 1\nIF (N == 1) CALL Q\nCALL Q\nEND\n",
@@ -124,6 +132,30 @@ fn sources_are_answered(rt: HostRuntime) -> Result<(), Fail> {
             "PROGRAM P\nINTEGER, PARAMETER :: M = 4\nINTEGER A(M)\nA(M) = M\nEND\n",
             "accepted units 1 objects 1 words 4 sites 1 doalls 0\n",
         ),
+        (
+            "PROGRAM C\nINTEGER A(10)\nDOALL I = 1, 9\nA(I) = A(I + 1)\nEND DOALL\nEND\n",
+            "refused Conflict at 4:8 and 4:1\n",
+        ),
+        (
+            "PROGRAM C\nINTEGER A(19)\nDOALL I = 1, 9\nA(2*I) = A(2*I + 1)\nEND DOALL\nEND\n",
+            "accepted units 1 objects 2 words 20 sites 2 doalls 1\n",
+        ),
+        (
+            "PROGRAM S\nINTEGER A(10:129)\nDOALL I = 1, 10 PRIVATE(J)\nDO J = 0, 9\nA(10*I + J) = I\nEND DO\nEND DOALL\nEND\n",
+            "accepted units 1 objects 3 words 122 sites 1 doalls 1\n",
+        ),
+        (
+            "PROGRAM S\nINTEGER A(10:129)\nDOALL I = 1, 10 PRIVATE(J)\nDO J = 0, 10\nA(10*I + J) = I\nEND DO\nEND DOALL\nEND\n",
+            "refused Conflict at 5:1 and 5:1\n",
+        ),
+        (
+            "PROGRAM G\nINTEGER A(4), IDX(4)\nDOALL I = 1, 4\nA(IDX(I)) = I\nEND DOALL\nEND\n",
+            "refused Conflict at 4:1 and 4:1\n",
+        ),
+        (
+            "PROGRAM P\nINTEGER A(4)\nDOALL I = 1, 4\nA(I) = I\nEND DOALL\nDOALL I = 1, 4\nA(1) = I\nEND DOALL\nDOALL I = 1, 4\nA(2) = I\nEND DOALL\nEND\n",
+            "refused Conflict at 7:1 and 7:1\n",
+        ),
     ];
     for (source, text) in cases {
         let mut sink = MemSink::new(rt.alloc(), 100, Vec::new(rt.alloc()))?;
@@ -133,6 +165,49 @@ fn sources_are_answered(rt: HostRuntime) -> Result<(), Fail> {
         );
         assert_eq!(rt; sink.bytes(), text.as_bytes(), "{source}");
     }
+    Ok(())
+}
+
+/// A sweep over two grids: two indexes, a scalar of the loop around, and a continued line.
+const JACOBI: &str = "PROGRAM JACOBI
+  IMPLICIT NONE
+  INTEGER, PARAMETER :: N = 64
+  INTEGER :: U(N, N), V(N, N), C(N)   ! two grids, one row of coefficients
+  INTEGER :: I, J, K
+  DO I = 1, N
+    C(I) = 2 * I
+  END DO
+  DOALL J = 1, N PRIVATE(I)
+    DO I = 1, N
+      U(I, J) = 4 * (I + J)
+    END DO
+  END DOALL
+  DO K = 1, 10
+    DOALL J = 2, N - 1 PRIVATE(I)
+      DO I = 2, N - 1
+        V(I, J) = (U(I - 1, J) + U(I + 1, J) + U(I, J - 1) + &
+                   U(I, J + 1)) / 4 + C(I) - 2 * I
+      END DO
+    END DOALL
+    DOALL J = 2, N - 1 PRIVATE(I)
+      DO I = 2, N - 1
+        U(I, J) = V(I, J)
+      END DO
+    END DOALL
+  END DO
+  PRINT *, U(32, 32), U(1, 1), U(63, 2)
+END PROGRAM JACOBI
+";
+
+#[test]
+fn a_sweep_is_accepted(rt: HostRuntime) -> Result<(), Fail> {
+    let mut sink = MemSink::new(rt.alloc(), 100, Vec::new(rt.alloc()))?;
+    assert_eq!(rt;
+        write_answer(rt.alloc(), JACOBI.as_bytes(), &mut sink),
+        Ok(())
+    );
+    let text = b"accepted units 1 objects 6 words 8259 sites 21 doalls 3\n";
+    assert_eq!(rt; sink.bytes(), text.as_slice());
     Ok(())
 }
 

@@ -1,4 +1,4 @@
-//! The statements that are read and not built yet: DOALL, SUBROUTINE and CALL.
+//! The statements that are read and not built yet: SUBROUTINE and CALL.
 
 ghost use Rattle.std.specs.Prelude.{◌≡◌, map, MatchOption};
 ghost use Rattle.cdc_tree.specs.Forms.{form, statement};
@@ -12,7 +12,7 @@ fn is_unbuilt(written: &Form) -> bool
     ensures { result ≡ is_unbuilt (form written.now) }
 {
     match written {
-        Form::Doall(_, _) | Form::Subroutine(_, _) | Form::Call(_, _) => true,
+        Form::Subroutine(_, _) | Form::Call(_, _) => true,
         Form::LogicalIf(_, simple) => is_unbuilt(&simple.form),
         Form::Program(_)
         | Form::End(_)
@@ -26,6 +26,7 @@ fn is_unbuilt(written: &Form) -> bool
         | Form::EndIf
         | Form::Do(_)
         | Form::EndDo
+        | Form::Doall(_, _)
         | Form::EndDoall
         | Form::Print(_)
         | Form::Read(_) => false,
