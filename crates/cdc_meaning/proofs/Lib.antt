@@ -4,5 +4,7 @@ mod Subscripts
 mod Moves
 mod Comes
 mod Statements
+mod Iterations
+mod Slots
 mod Answers
 mod Programs

@@ -1,30 +1,10 @@
 -- The answers of a run.
-use Rattle.std.specs.Prelude.{◌≡◌, ◌≢◌, ℕ, ◌≤◌, List, Option, Result, Ok, Err}
-use Rattle.cdc_base.specs.Causes.{Rose}
-use Rattle.cdc_base.specs.Outside.{grown, GrewInPart}
+use Rattle.std.specs.Prelude.{◌≡◌, ◌≢◌}
 use Rattle.cdc_prog.specs.Lines.{is_open}
 use Rattle.cdc_prog.specs.Meaning.{Meaning}
-use Rattle.cdc_prog.specs.declared.plain.Plain.{Plain}
-use Rattle.cdc_prog.specs.declared.plain.Plain.TheVariants.{Done, Fault, SinkFault, Memory}
-use Rattle.cdc_meaning.specs.declared.print.Stop.{Stop}
-use Rattle.cdc_meaning.specs.declared.print.Stop.TheVariants.{Faulted, Sink}
+use Rattle.cdc_prog.specs.declared.plain.Plain.TheVariants.{SinkFault, Memory}
 use Rattle.cdc_meaning.specs.declared.run.Ran.{Ran}
 
 -- where the program ended, the last line is told to be open exactly where it is
 abbrev pub TellsLine : Meaning → Ran → Type 0
 TellsLine m ran = ran.answer ≢ SinkFault → ran.answer ≢ Memory → ran.is_open ≡ is_open m.bytes
-
-abbrev pub answer_of : Result (Unit {0}) Stop → Plain
-answer_of (Ok u) = Done
-answer_of (Err (Faulted f)) = Fault f.kind f.line
-answer_of (Err Sink) = SinkFault
-
--- all that waited was handed to the sink, or it failed when it had taken a front of that
-pub record IsHanded (end : Result (Unit {0}) Stop) (waiting : List ℕ) (before : Option (List ℕ)) (faults : ℕ) (result : Result (Unit {0}) Stop) (now : Option (List ℕ)) (risen : ℕ) : Type 0 where
-  pub whole : result ≢ Err Sink → (result ≡ end) × (now ≡ grown before waiting) × (risen ≡ faults)
-  pub part : result ≡ Err Sink → GrewInPart before now waiting × (faults ≤ risen) × Rose faults risen
-
--- the same, where the sink had not failed before; else nothing more is handed to it
-abbrev pub IsHandedOn : (end : Result (Unit {0}) Stop) → (waiting : List ℕ) → (before : Option (List ℕ)) → (faults : ℕ) → (result : Result (Unit {0}) Stop) → (now : Option (List ℕ)) → (risen : ℕ) → Type 0
-IsHandedOn (Err Sink) waiting before faults result now risen = (result ≡ Err Sink) × (now ≡ before) × (risen ≡ faults)
-IsHandedOn end waiting before faults result now risen = IsHanded end waiting before faults result now risen

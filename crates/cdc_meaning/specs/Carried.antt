@@ -1,19 +1,18 @@
 -- What code that carries out statements owes to the sink: the bytes that are taken go on with those that the process prints.
-use Rattle.std.specs.Prelude.{◌≡◌, ℕ, ◌≤◌, ℤ, Bool, true, false, List, ◌∷◌, length, Option, Some, None, Result, Ok, Err}
-use Rattle.cdc_base.specs.Outside.{grown}
-use Rattle.cdc_base.specs.Causes.{Rose}
-use Rattle.cdc_base.specs.Gathered.{waiting}
+use Rattle.std.specs.Prelude.{◌≡◌, ℕ, ℤ, Bool, true, false, List, ◌∷◌, Option, Result, Ok, Err}
 use Rattle.cdc_prog.specs.Data.{Store}
 use Rattle.cdc_prog.specs.Input.{Input}
 use Rattle.cdc_prog.specs.Process.{Process, Fail}
 use Rattle.cdc_prog.specs.Expressions.{Surroundings}
 use Rattle.cdc_prog.specs.Plain.{Item, Stmt}
 use Rattle.cdc_prog.specs.Statements.{Calls, Work, items, stmt}
-use Rattle.cdc_prog.specs.InOrder.{output, ends}
+use Rattle.cdc_prog.specs.InOrder.{run}
 use Rattle.cdc_prog.specs.Lines.{opened}
-use Rattle.cdc_prog.specs.Meaning.{bytes_of}
-use Rattle.cdc_meaning.specs.declared.print.Stop.{Stop}
-use Rattle.cdc_meaning.specs.declared.print.Stop.TheVariants.{Faulted, Sink}
+use Rattle.cdc_prog.specs.Meaning.{Meaning}
+use Rattle.cdc_prog.specs.Output as sink
+use Rattle.cdc_prog.specs.Output.{meaning_of}
+use Rattle.cdc_prog.specs.declared.stop.Stop.{Stop}
+use Rattle.cdc_prog.specs.declared.stop.Stop.TheVariants.{Faulted, Sink}
 use Rattle.cdc_prog.specs.Held.{store_of, around}
 use Rattle.cdc_prog.specs.Unread.{left_of}
 use Rattle.cdc_meaning.specs.declared.exec.Streams.{Streams}
@@ -21,27 +20,13 @@ use Rattle.cdc_meaning.specs.declared.print.Page.{Page}
 use Rattle.cdc_meaning.specs.declared.frame.Frame.{Frame}
 use Rattle.cdc_meaning.specs.Frames.{binding}
 
--- what was printed: the bytes, where the sink tells those that it took, and whether their last line is open
-pub record Printed : Type 0 where
-  pub bytes : Option (List ℕ)
-  pub is_open : Bool
-
-abbrev pub printed_with : Printed → List ℕ → Printed
-printed_with printed bytes = record { bytes = grown printed.bytes bytes; is_open = opened printed.is_open bytes }
-
--- where output goes: the bytes that the sink took, where they are told, those that wait for it, whether the last line is open, and the count of the sink's faults
+-- where output goes, and whether the last line that was printed is open
 pub record Output : Type 0 where
-  pub taken : Option (List ℕ)
-  pub waits : List ℕ
+  pub sent : sink.Output
   pub is_open : Bool
-  pub faults : ℕ
 
 abbrev pub output_of : (taken : Option (List ℕ)) → Page → (faults : ℕ) → Output
-output_of taken page faults = record { taken = taken; waits = waiting page.gathered; is_open = page.is_open; faults = faults }
-
--- what was printed so far: what the sink took, and what waits for it
-abbrev pub printed_so_far : Output → Printed
-printed_so_far o = record { bytes = grown o.taken o.waits; is_open = o.is_open }
+output_of taken page faults = record { sent = sink.output_of taken page.gathered faults; is_open = page.is_open }
 
 -- what statements work on: the store, the surroundings, and where output goes
 pub record State : Type 0 where
@@ -56,34 +41,20 @@ state words slots left output = record { store = store_of words; around = around
 abbrev pub state_of : (words slots : List ℤ) → Streams → (taken : Option (List ℕ)) → (faults : ℕ) → State
 state_of words slots streams taken faults = state words slots (left_of streams.unread) (output_of taken streams.page faults)
 
-abbrev pub size_of_taken : Option (List ℕ) → ℕ
-size_of_taken None = 0
-size_of_taken (Some bytes) = length bytes
+-- what a process prints on a store, and its end
+abbrev pub meant : (texts : List (List ℕ)) → Process → Store → Meaning
+meant texts p s = meaning_of texts (run p s)
 
--- what will have been printed when a process has printed
-abbrev pub whole : (texts : List (List ℕ)) → Process → State → Printed
-whole texts p x = printed_with (printed_so_far x.output) (bytes_of texts (output p x.store))
-
--- one process in its state prints what the other still has to print in its own, beside what was printed between, and ends as it does
+-- one process in its state goes on with what the other still has to print in its own, beside what was printed between, and ends as it does and with such a line
 pub record Follows (texts : List (List ℕ)) (p : Process) (x : State) (q : Process) (y : State) : Type 0 where
-  pub whole : whole texts p x ≡ whole texts q y
-  pub ends : ends p x.store ≡ ends q y.store
-  pub longer : size_of_taken x.output.taken ≤ size_of_taken y.output.taken
-  pub faults : y.output.faults ≡ x.output.faults
-
--- the sink failed when it had taken a front of what the process prints
-pub record IsCut (texts : List (List ℕ)) (p : Process) (x y : State) : Type 0 where
-  pub left : List ℕ
-  pub front : grown y.output.taken left ≡ (whole texts p x).bytes
-  pub longer : size_of_taken x.output.taken ≤ size_of_taken y.output.taken
-  pub later : x.output.faults ≤ y.output.faults
-  pub rose : Rose x.output.faults y.output.faults
+  pub goes_on : sink.Follows (meant texts p x.store) x.output.sent (meant texts q y.store) y.output.sent
+  pub line : opened x.output.is_open (meant texts p x.store).bytes ≡ opened y.output.is_open (meant texts q y.store).bytes
 
 -- what a process comes to, a fault, or a failure of the sink
 abbrev pub Comes : (texts : List (List ℕ)) → Process → State → Result (Unit {0}) Stop → Process → State → Type 0
 Comes texts p x (Ok u) q y = Follows texts p x q y
 Comes texts p x (Err (Faulted f)) q y = Follows texts p x (Fail f.kind f.line) y
-Comes texts p x (Err Sink) q y = IsCut texts p x y
+Comes texts p x (Err Sink) q y = sink.IsCut (meant texts p x.store) x.output.sent y.output.sent
 
 -- whatever follows
 abbrev pub Carried : (texts : List (List ℕ)) → Work → State → Result (Unit {0}) Stop → State → Type 0

@@ -4,5 +4,6 @@ pub mod Evaluates
 pub mod Folded
 pub mod Carried
 pub mod Loops
+pub mod Doall
 pub mod Answers
 pub mod Examples

@@ -9,7 +9,7 @@ use Rattle.cdc_prog.specs.Expressions.{Surroundings}
 use Rattle.cdc_prog.specs.Statements.{Calls, Work, raise, turns, counted, stmt}
 use Rattle.cdc_prog.specs.declared.fault.Fault.{Fault}
 use Rattle.cdc_meaning.specs.declared.frame.Frame.{Frame}
-use Rattle.cdc_meaning.specs.declared.print.Stop.{Stop}
+use Rattle.cdc_prog.specs.declared.stop.Stop.{Stop}
 use Rattle.cdc_meaning.specs.declared.steps.Turns.{Turns}
 use Rattle.cdc_meaning.specs.Frames.{binding}
 use Rattle.cdc_meaning.specs.Carried.{State, Carried}

@@ -1,19 +1,22 @@
 // Statements.
-ghost use Rattle.std.specs.Prelude.{◌≡◌, length};
+ghost use Rattle.std.specs.Prelude.{◌≡◌, ◌<◌, length, List, ℤ};
 ghost use Rattle.cdc_prog.specs.Bodies.{HasOnly};
 ghost use Rattle.cdc_prog.specs.Resolved.{IsScalar, StmtFits};
 ghost use Rattle.cdc_meaning.specs.Loops.{DoesTurns};
+ghost use Rattle.cdc_meaning.specs.Doall.{DoesFork, SlotsWithin};
+ghost use Rattle.cdc_prog.specs.Trips.{HasIndexes};
 ghost use Rattle.cdc_prog.specs.Translation.{stmt_of, stmts_of, program_of};
 ghost use Rattle.cdc_meaning.specs.Frames.{shapes_of, IsPlaced};
 ghost use Rattle.cdc_meaning.specs.Carried.{state_of, DoesStmt};
 
+use crate::doall::{Fork, begin_doall, begin_iteration};
 use crate::expr::value;
 use crate::frame::Frame;
-use crate::print::{Page, Stop, print};
+use crate::print::{Page, print};
 use crate::read::read;
 use crate::steps::{Turns, assign, begin, raise};
 use cdc_base::Sink;
-use cdc_prog::{Stmt, Unread};
+use cdc_prog::{Stmt, Stop, Unread};
 
 /// What is left of the input, and what was printed.
 #[derive(Drop)]
@@ -22,7 +25,7 @@ pub struct Streams<'a> {
     pub page: Page,
 }
 
-/// Carries out a statement of serial code that has no DOALL and no CALL.
+/// Carries out a statement that has no CALL. A DOALL takes the slots of its iterations in `lane`, one iteration after another.
 ///
 /// # Errors
 ///
@@ -32,6 +35,7 @@ pub fn exec<K: Sink>(
     frame: &Frame,
     words: &mut [i64],
     slots: &mut [i64],
+    lane: &mut [i64],
     streams: &mut Streams,
     out: &mut K,
     statement: &Stmt,
@@ -39,7 +43,8 @@ pub fn exec<K: Sink>(
     requires placed { IsPlaced frame.now }
     requires room { length words.old ≡ frame.now.program.now.words }
     requires fits { StmtFits (program_of frame.now.program.now) (λ u. 0) 0 (shapes_of frame.now) (length slots.old) (stmt_of statement.now) }
-    requires serial { HasOnly (Unit {0}) ⊥ ⊥ (stmt_of statement.now) }
+    requires calls { HasOnly (Unit {0}) (Unit {0}) ⊥ (stmt_of statement.now) }
+    requires lane { SlotsWithin (length lane.old) (stmt_of statement.now) }
     ensures { DoesStmt frame.now (stmt_of statement.now) (state_of words.old slots.old streams.old (K.taken out.old) (K.faults out.old)) result (state_of words.new slots.new streams.new (K.taken out.new) (K.faults out.new)) }
 {
     match statement {
@@ -55,10 +60,10 @@ pub fn exec<K: Sink>(
             for arm in arms.as_slice() {
                 let holds = value(frame, words, slots, arm.line, &arm.cond)?;
                 if holds != 0 {
-                    return exec_all(frame, words, slots, streams, out, arm.body.as_slice());
+                    return exec_all(frame, words, slots, lane, streams, out, arm.body.as_slice());
                 }
             }
-            exec_all(frame, words, slots, streams, out, other.as_slice())
+            exec_all(frame, words, slots, lane, streams, out, other.as_slice())
         }
         Stmt::Do {
             control,
@@ -68,7 +73,16 @@ pub fn exec<K: Sink>(
             bump,
         } => {
             let turns = begin(frame, words, slots, control, *first, *again, *bump)?;
-            repeat(frame, words, slots, streams, out, body.as_slice(), turns)
+            repeat(
+                frame,
+                words,
+                slots,
+                lane,
+                streams,
+                out,
+                body.as_slice(),
+                turns,
+            )
         }
         Stmt::Print { line, items } => print(
             frame,
@@ -90,7 +104,26 @@ pub fn exec<K: Sink>(
             )?;
             Ok(())
         }
-        Stmt::Doall { .. } | Stmt::Call { .. } => unreachable!(),
+        Stmt::Doall {
+            control,
+            slots: own,
+            body,
+            ..
+        } => {
+            let fork = begin_doall(frame, words, slots, control)?;
+            let (lane, others) = lane.split_at_mut(*own as usize);
+            iterate(
+                frame,
+                words,
+                lane,
+                others,
+                streams,
+                out,
+                body.as_slice(),
+                fork,
+            )
+        }
+        Stmt::Call { .. } => unreachable!(),
     }
 }
 
@@ -104,6 +137,7 @@ pub fn exec_all<K: Sink>(
     frame: &Frame,
     words: &mut [i64],
     slots: &mut [i64],
+    lane: &mut [i64],
     streams: &mut Streams,
     out: &mut K,
     statements: &[Stmt],
@@ -111,11 +145,12 @@ pub fn exec_all<K: Sink>(
     requires placed { IsPlaced frame.now }
     requires room { length words.old ≡ frame.now.program.now.words }
     requires fits { StmtFits (program_of frame.now.program.now) (λ u. 0) 0 (shapes_of frame.now) (length slots.old) (stmts_of statements.now) }
-    requires serial { HasOnly (Unit {0}) ⊥ ⊥ (stmts_of statements.now) }
+    requires calls { HasOnly (Unit {0}) (Unit {0}) ⊥ (stmts_of statements.now) }
+    requires lane { SlotsWithin (length lane.old) (stmts_of statements.now) }
     ensures { DoesStmt frame.now (stmts_of statements.now) (state_of words.old slots.old streams.old (K.taken out.old) (K.faults out.old)) result (state_of words.new slots.new streams.new (K.taken out.new) (K.faults out.new)) }
 {
     for statement in statements {
-        exec(frame, words, slots, streams, out, statement)?;
+        exec(frame, words, slots, lane, streams, out, statement)?;
     }
     Ok(())
 }
@@ -126,6 +161,7 @@ fn repeat<K: Sink>(
     frame: &Frame,
     words: &mut [i64],
     slots: &mut [i64],
+    lane: &mut [i64],
     streams: &mut Streams,
     out: &mut K,
     body: &[Stmt],
@@ -134,14 +170,42 @@ fn repeat<K: Sink>(
     requires placed { IsPlaced frame.now }
     requires room { length words.old ≡ frame.now.program.now.words }
     requires fits { StmtFits (program_of frame.now.program.now) (λ u. 0) 0 (shapes_of frame.now) (length slots.old) (stmts_of body.now) }
-    requires serial { HasOnly (Unit {0}) ⊥ ⊥ (stmts_of body.now) }
+    requires calls { HasOnly (Unit {0}) (Unit {0}) ⊥ (stmts_of body.now) }
+    requires lane { SlotsWithin (length lane.old) (stmts_of body.now) }
     requires again { IsScalar frame.now.program.now.objects (shapes_of frame.now) (length slots.old) turns.again.var }
     requires bump { IsScalar frame.now.program.now.objects (shapes_of frame.now) (length slots.old) turns.bump.var }
     ensures { DoesTurns frame.now turns (stmts_of body.now) (state_of words.old slots.old streams.old (K.taken out.old) (K.faults out.old)) result (state_of words.new slots.new streams.new (K.taken out.new) (K.faults out.new)) }
 {
     for _ in 0..turns.count {
-        exec_all(frame, words, slots, streams, out, body)?;
+        exec_all(frame, words, slots, lane, streams, out, body)?;
         raise(frame, words, slots, turns)?;
+    }
+    Ok(())
+}
+
+// Carries out the iterations of a DOALL in order, up to the first fault. No iteration has a DOALL, so none needs the others.
+#[cycle(exec)]
+fn iterate<K: Sink>(
+    frame: &Frame,
+    words: &mut [i64],
+    lane: &mut [i64],
+    others: &mut [i64],
+    streams: &mut Streams,
+    out: &mut K,
+    body: &[Stmt],
+    fork: Fork,
+) -> Result<(), Stop>
+    requires placed { IsPlaced frame.now }
+    requires room { length words.old ≡ frame.now.program.now.words }
+    requires some { 0 < length lane.old }
+    requires fits { StmtFits (program_of frame.now.program.now) (λ u. 0) 0 (shapes_of frame.now) (length lane.old) (stmts_of body.now) }
+    requires alone { HasOnly ⊥ ⊥ ⊥ (stmts_of body.now) }
+    requires indexes { HasIndexes fork.count fork.from fork.by }
+    ensures { (slots : List ℤ) → DoesFork frame.now fork (stmts_of body.now) (state_of words.old slots streams.old (K.taken out.old) (K.faults out.old)) result (state_of words.new slots streams.new (K.taken out.new) (K.faults out.new)) }
+{
+    for k in 0..fork.count {
+        begin_iteration(lane, fork, k);
+        exec_all(frame, words, lane, others, streams, out, body)?;
     }
     Ok(())
 }

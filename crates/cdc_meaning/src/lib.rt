@@ -2,6 +2,7 @@
 #![tactic(auto)]
 
 mod cell;
+mod doall;
 mod exec;
 mod expr;
 mod folded;

@@ -12,39 +12,8 @@ ghost use Rattle.cdc_meaning.specs.Carried.{output_of, Says, ShowsItem, ShowsIte
 
 use crate::expr::value;
 use crate::frame::Frame;
-use cdc_base::{Gathered, List, Sink, SinkFault};
-use cdc_prog::{Fault, Item, Piece, opens, put_piece};
-
-/// Why a program stops.
-#[derive(Clone, Copy)]
-pub enum Stop {
-    /// A fault of the program.
-    Faulted(Fault),
-    /// The sink failed.
-    Sink,
-}
-
-impl From<Fault> for Stop {
-    ghost use Rattle.std.specs.Prelude.{◌≡◌};
-    ghost use Rattle.cdc_meaning.specs.declared.print.Stop.TheVariants.{Faulted};
-
-    ghost from_gives = { λ fault e. e ≡ Faulted fault };
-
-    fn from(fault: Fault) -> Stop {
-        Stop::Faulted(fault)
-    }
-}
-
-impl From<SinkFault> for Stop {
-    ghost use Rattle.std.specs.Prelude.{◌≡◌};
-    ghost use Rattle.cdc_meaning.specs.declared.print.Stop.TheVariants.{Sink as SinkFailed};
-
-    ghost from_gives = { λ _ e. e ≡ SinkFailed };
-
-    fn from(_fault: SinkFault) -> Stop {
-        Stop::Sink
-    }
-}
+use cdc_base::{Gathered, List, Sink};
+use cdc_prog::{Item, Piece, Stop, opens, put_piece};
 
 /// What a program printed and the sink was not handed yet, and whether the line that was printed last is open.
 #[derive(Drop)]

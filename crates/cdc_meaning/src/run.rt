@@ -1,19 +1,20 @@
 // Whole programs.
-ghost use Rattle.std.specs.Prelude.{◌≡◌, ◌<◌, pos, length, replicate};
+ghost use Rattle.std.specs.Prelude.{◌≡◌, pos, length, replicate, IfOk};
 ghost use Rattle.cdc_prog.specs.Translation.{program_of, stmts_of};
 ghost use Rattle.cdc_prog.specs.Units.{body_of};
-ghost use Rattle.cdc_prog.specs.Resolved.{IsResolved, IsSerial};
+ghost use Rattle.cdc_prog.specs.Resolved.{IsResolved, HasNoCall};
 ghost use Rattle.cdc_prog.specs.Meaning.{meaning};
 ghost use Rattle.cdc_prog.specs.Answers.{IsRun, HasPlainCause};
-ghost use Rattle.cdc_base.specs.Gathered.{waiting};
-ghost use Rattle.cdc_meaning.specs.Answers.{TellsLine, IsHandedOn, answer_of};
+ghost use Rattle.cdc_meaning.specs.Answers.{TellsLine};
+ghost use Rattle.cdc_meaning.specs.Doall.{SlotsWithin};
 
+use crate::doall::most_slots;
 use crate::exec::{Streams, exec_all};
 use crate::frame::Frame;
-use crate::print::{Page, Stop};
-use cdc_base::{Gathered, List, Sink};
+use crate::print::Page;
+use cdc_base::{List, NoMemory, Sink};
 use cdc_input::InputRecords;
-use cdc_prog::{Plain, Program, Stmt, Unread};
+use cdc_prog::{Plain, Program, Stmt, Unread, answer, hand_on};
 use std::alloc::Global;
 
 /// How the run of a program ended, and whether the line that it printed last is open.
@@ -24,8 +25,30 @@ pub struct Ran {
     pub is_open: bool,
 }
 
+// The memory of a run: the words of the objects, and room for the slots of an iteration.
+#[derive(Drop)]
+struct Memory {
+    words: Vec<i64>,
+    lane: Vec<i64>,
+}
+
+impl Memory {
+    // The words are 0, and there is room for the iterations of each DOALL of the main unit.
+    fn take(alloc: Global, program: &Program) -> Result<Memory, NoMemory>
+        requires resolved { IsResolved (program_of program.now) }
+        requires calls { HasNoCall (program_of program.now) }
+        ensures zeros { IfOk result (λ m. m.words.items ≡ replicate program.now.words (pos 0)) }
+        ensures lane { IfOk result (λ m. SlotsWithin (length m.lane.items) (body_of (program_of program.now) program.now.main)) }
+    {
+        let words = vec![in alloc; 0; program.words as usize]?;
+        let lane = vec![in alloc; 0; most_slots(main_body(program)) as usize]?;
+        Ok(Memory { words, lane })
+    }
+}
+
 /// Carries out a program by the rules of the language, on one store, and writes its output as it
-/// comes. The program has no DOALL and no CALL. All memory is taken before the first byte is written.
+/// comes; the iterations of a DOALL come one after another. The program has no CALL. All memory is
+/// taken before the first byte is written.
 /// Where the sink did not fail and memory did not run out, the last line is told to be open exactly
 /// where all the output ends in bytes behind its last line end.
 pub fn run_lines<K: Sink>(
@@ -35,13 +58,19 @@ pub fn run_lines<K: Sink>(
     out: &mut K,
 ) -> Ran
     requires resolved { IsResolved (program_of program.now) }
-    requires serial { IsSerial (program_of program.now) }
+    requires calls { HasNoCall (program_of program.now) }
     ensures run { IsRun (meaning (program_of program.now) records.now.records) (K.taken out.old) (K.taken out.new) result.answer }
     ensures line { TellsLine (meaning (program_of program.now) records.now.records) result }
     ensures cause { HasPlainCause (K.faults out.old) (K.faults out.new) result.answer }
 {
-    match vec![in alloc; 0; program.words as usize] {
-        Ok(mut words) => run_on(program, records.records.as_slice(), &mut words, out),
+    match Memory::take(alloc, program) {
+        Ok(mut memory) => run_on(
+            program,
+            records.records.as_slice(),
+            &mut memory.words,
+            &mut memory.lane,
+            out,
+        ),
         Err(_) => Ran {
             answer: Plain::Memory,
             is_open: false,
@@ -57,7 +86,7 @@ pub fn run_plain<K: Sink>(
     out: &mut K,
 ) -> Plain
     requires resolved { IsResolved (program_of program.now) }
-    requires serial { IsSerial (program_of program.now) }
+    requires calls { HasNoCall (program_of program.now) }
     ensures run { IsRun (meaning (program_of program.now) records.now.records) (K.taken out.old) (K.taken out.new) result }
     ensures cause { HasPlainCause (K.faults out.old) (K.faults out.new) result }
 {
@@ -65,10 +94,17 @@ pub fn run_plain<K: Sink>(
 }
 
 // Carries out the main unit of a program on words of 0.
-fn run_on<K: Sink>(program: &Program, records: &[List<i64>], words: &mut [i64], out: &mut K) -> Ran
+fn run_on<K: Sink>(
+    program: &Program,
+    records: &[List<i64>],
+    words: &mut [i64],
+    lane: &mut [i64],
+    out: &mut K,
+) -> Ran
     requires resolved { IsResolved (program_of program.now) }
-    requires serial { IsSerial (program_of program.now) }
+    requires calls { HasNoCall (program_of program.now) }
     requires zeros { words.old ≡ replicate program.now.words (pos 0) }
+    requires lane { SlotsWithin (length lane.old) (body_of (program_of program.now) program.now.main) }
     ensures run { IsRun (meaning (program_of program.now) records.now) (K.taken out.old) (K.taken out.new) result.answer }
     ensures line { TellsLine (meaning (program_of program.now) records.now) result }
     ensures cause { HasPlainCause (K.faults out.old) (K.faults out.new) result.answer }
@@ -86,6 +122,7 @@ fn run_on<K: Sink>(program: &Program, records: &[List<i64>], words: &mut [i64], 
         &frame,
         words,
         &mut [],
+        lane,
         &mut streams,
         out,
         main_body(program),
@@ -97,35 +134,13 @@ fn run_on<K: Sink>(program: &Program, records: &[List<i64>], words: &mut [i64], 
     }
 }
 
-// Hands what still waits to the sink, where that has not failed before.
-fn hand_on<K: Sink>(end: Result<(), Stop>, gathered: &mut Gathered, out: &mut K) -> Result<(), Stop>
-    ensures { IsHandedOn end (waiting gathered.old) (K.taken out.old) (K.faults out.old) result (K.taken out.new) (K.faults out.new) }
-{
-    if let Err(Stop::Sink) = end {
-        return end;
-    }
-    gathered.flush(out)?;
-    end
-}
-
 // The statements of the main unit.
 fn main_body(program: &Program) -> &[Stmt]
-    requires there { program.now.main < length program.now.units }
-    requires serial { IsSerial (program_of program.now) }
+    requires resolved { IsResolved (program_of program.now) }
+    requires calls { HasNoCall (program_of program.now) }
     ensures { stmts_of result.now ≡ body_of (program_of program.now) program.now.main }
 {
     program.units.as_slice()[program.main as usize]
         .body
         .as_slice()
-}
-
-// The answer to an end.
-fn answer(end: Result<(), Stop>) -> Plain
-    ensures { result ≡ answer_of end }
-{
-    match end {
-        Ok(()) => Plain::Done,
-        Err(Stop::Faulted(fault)) => Plain::Fault(fault.kind, fault.line),
-        Err(Stop::Sink) => Plain::SinkFault,
-    }
 }

@@ -7,13 +7,17 @@ use Rattle.cdc_prog.specs.Resolved.{StmtFits, ItemFits, TargetFits}
 use Rattle.cdc_prog.specs.Expressions.{Surroundings, expr}
 use Rattle.cdc_prog.specs.Statements.{stmt, assign, branch, raise, turns, counted, items}
 use Rattle.cdc_prog.specs.Translation.{expr_of, target_of, item_of, control_of, stmt_of, stmts_of, arms_of, program_of}
-use Rattle.cdc_prog.proofs.Translated.{at_assign, at_do, at_print, at_read}
+use Rattle.cdc_prog.proofs.Translated.{at_assign, at_do, at_doall, at_print, at_read}
+use Rattle.cdc_prog.proofs.Bodies.{allowed}
 use Rattle.cdc_meaning.specs.Frames.{shapes_of, binding}
 use Rattle.cdc_prog.specs.Held.{Same, around, store_of}
 use Rattle.cdc_prog.specs.Unread.{left_of}
 use Rattle.cdc_meaning.specs.Carried.{output_of, state, Follows}
 use Rattle.cdc_meaning.specs.Loops.{turns_left}
+use Rattle.cdc_meaning.specs.Doall.{forked, SlotsWithin}
 use Rattle.cdc_meaning.proofs.Comes.{follows_after, comes_after, exits, faults, begun, ticked, same_follows, none_left}
+use Rattle.cdc_meaning.proofs.Slots.{none_needed}
+use Rattle.cdc_meaning.proofs.Iterations.{iterations_left, is_in_order, one_iteration, no_iteration, follows_there, comes_there}
 use Rattle.cdc_meaning.proofs.Statements.{one_statement, one_arm, is_taken, is_passed, one_turn, no_turn, each_image}
 use Rattle.cdc_meaning.proofs.exec.+exec.Goals as goal
 
@@ -53,7 +57,8 @@ exec_all-loop-statement-preserved g t c =
     let is = one_statement a.statements.now i c.statement-item.result (omega arith) c.statement-item.is in
     record {
       fits = subst (λ n. StmtFits (program_of a.frame.now.program.now) (λ u. 0) 0 (shapes_of a.frame.now) n more) (sym c.exec.auto.slots) (subst (StmtFits (program_of a.frame.now.program.now) (λ u. 0) 0 (shapes_of a.frame.now) (length l.slots)) is l.invariant.fits).1;
-      serial = (subst (HasOnly (Unit {0}) ⊥ ⊥) is l.invariant.serial).1;
+      calls = (subst (HasOnly (Unit {0}) (Unit {0}) ⊥) is l.invariant.calls).1;
+      lane = subst (λ n. SlotsWithin n more) (sym c.exec.auto.lane) (subst (SlotsWithin (length l.lane)) is l.invariant.lane).1;
       follows = λ calls rest.
           let k = λ (f : Surroundings). stmt calls b more f rest in
           let p = stmt calls b (stmts_of a.statements.now) d rest in
@@ -170,7 +175,8 @@ exec-loop-arm-preserved g t c =
     let none : v ≡ pos 0 = search rules in
     record {
       fits = (subst (StmtFits (program_of a.frame.now.program.now) (λ u. 0) 0 (shapes_of a.frame.now) (length l.slots)) is l.invariant.fits).2;
-      serial = (subst (HasOnly (Unit {0}) ⊥ ⊥) is l.invariant.serial).1;
+      calls = (subst (HasOnly (Unit {0}) (Unit {0}) ⊥) is l.invariant.calls).1;
+      lane = (subst (SlotsWithin (length l.lane)) is l.invariant.lane).1;
       follows = λ calls rest.
           let p = stmt calls b (stmt_of a.statement.now) d rest in
           let taken = stmt calls b (stmts_of arm.body) e rest in
@@ -340,3 +346,101 @@ repeat-returns g t c = λ calls rest.
     let y = state l.words l.slots (left_of l.streams.unread) (output_of (g.K.Sink.taken l.out) l.streams.page (g.K.Sink.faults l.out)) in
     let p = turns a.turns.count body raised x.around rest in
     no_turn texts a.turns.count l.counter body raised rest p x y (omega arith) (l.invariant calls rest)
+
+pub exec-returns-in_ok-fork-in-Doall : goal.exec-returns-in_ok-fork-in-Doall
+exec-returns-in_ok-fork-in-Doall g t c = λ calls rest.
+    let texts = c.args.frame.now.program.now.texts in
+    let b = binding c.args.frame.now in
+    let a = c.args in
+    let o = c.in-Doall in
+    let f = c.in_ok-fork-in-Doall.fork in
+    let left = left_of a.streams.now.unread in
+    let d = around a.slots.now left in
+    let x = state a.words.now a.slots.now left (output_of (g.K.Sink.taken a.out.now) a.streams.now.page (g.K.Sink.faults a.out.now)) in
+    let n = c.iterate.new in
+    let z = state n.words a.slots.now (left_of n.streams.unread) (output_of (g.K.Sink.taken n.out) n.streams.page (g.K.Sink.faults n.out)) in
+    let p = stmt calls b (stmt_of a.statement.now) d rest in
+    let body = stmt calls b (stmts_of o.body) in
+    let is = ap (λ (v : plain.Stmt). stmt calls b v d rest) (ap stmt_of o.is ∙ at_doall o.control o.number o.own o.body) in
+    comes_after texts p (forked b o.number f body d rest) (rest z.around) x x z c.iterate.result
+    (follows_after texts (begun texts is) (same_follows texts (c.in_ok-fork-in-Doall.ensures.forks o.number left body rest) refl))
+    (rw c.as_slice-in-Doall.ensures at (c.iterate.ensures a.slots.now calls o.number rest))
+
+pub iterate-loop-k-init : goal.iterate-loop-k-init
+iterate-loop-k-init g t c = λ slots calls number rest.
+    let a = c.args in
+    let d = around slots (left_of a.streams.now.unread) in
+    same_follows a.frame.now.program.now.texts (is_in_order calls (binding a.frame.now) (stmts_of a.body.now) number (a.fork.count - 0) a.fork d rest (store_of a.words.now) c.requires.alone (omega arith)) refl
+
+pub iterate-exec_all-requires : goal.iterate-exec_all-requires
+iterate-exec_all-requires g t c =
+    let a = c.args in
+    let f = a.frame.now in
+    let body = stmts_of a.body.now in
+    let same : length a.lane.now ≡ length c.begin_iteration.new.lane = omega arith in
+    let fits = subst (λ n. StmtFits (program_of f.program.now) (λ u. 0) 0 (shapes_of f) n body) same c.requires.fits in
+    let calls = allowed {talks' = Unit {0}} {doalls' = Unit {0}} {calls' = ⊥} (λ h. absurd h) (λ h. absurd h) (λ h. h) body c.requires.alone in
+    λ κs lives. (search rules, (lives, (c.requires.placed, (search rules, (fits, (calls, none_needed ⊥ ⊥ (length c.loop-k.others) body c.requires.alone))))))
+
+pub iterate-returns-in_err-exec_all : goal.iterate-returns-in_err-exec_all
+iterate-returns-in_err-exec_all g t c = λ slots calls number rest.
+    let r = err_from_is_err_and c.from_residual.result c.from_residual.ensures.1 in
+    let texts = c.args.frame.now.program.now.texts in
+    let b = binding c.args.frame.now in
+    let a = c.args in
+    let f = a.fork in
+    let l = c.loop-k in
+    let lane = c.begin_iteration.new.lane in
+    let left = left_of l.streams.unread in
+    let body = stmt calls b (stmts_of a.body.now) in
+    let output = output_of (g.K.Sink.taken l.out) l.streams.page (g.K.Sink.faults l.out) in
+    let x = state a.words.now slots (left_of a.streams.now.unread) (output_of (g.K.Sink.taken a.out.now) a.streams.now.page (g.K.Sink.faults a.out.now)) in
+    let y = state l.words slots left output in
+    let w = state l.words lane left output in
+    let n = c.exec_all.new in
+    let after = left_of n.streams.unread in
+    let o = output_of (g.K.Sink.taken n.out) n.streams.page (g.K.Sink.faults n.out) in
+    let z = state n.words n.slots after o in
+    let p = forked b number f body x.around rest in
+    let k = λ (d : Surroundings). iterations_left (f.count - (l.k + 1)) (l.k + 1) f.from f.by body (record { slots = store_of slots; input = d.input }) rest in
+    let q = body (around lane left) k in
+    let here = one_iteration texts f.count l.k f.from f.by body slots lane left rest p x y (omega arith) c.begin_iteration.ensures (l.invariant slots calls number rest) in
+    let there = follows_there texts p x (store_of l.words) y.around w.around output q here in
+    comes_there texts p x (store_of n.words) z.around (around slots after) o (rest (around slots after)) c.from_residual.result
+    (exits texts p q (k z.around) (rest (around slots after)) x w z c.from_residual.result _ (r.1 ∙ ap Err r.2) there (c.in_err-exec_all.ensures calls k))
+
+pub iterate-loop-k-preserved : goal.iterate-loop-k-preserved
+iterate-loop-k-preserved g t c = λ slots calls number rest.
+    let texts = c.args.frame.now.program.now.texts in
+    let b = binding c.args.frame.now in
+    let a = c.args in
+    let f = a.fork in
+    let l = c.loop-k in
+    let lane = c.begin_iteration.new.lane in
+    let left = left_of l.streams.unread in
+    let body = stmt calls b (stmts_of a.body.now) in
+    let output = output_of (g.K.Sink.taken l.out) l.streams.page (g.K.Sink.faults l.out) in
+    let x = state a.words.now slots (left_of a.streams.now.unread) (output_of (g.K.Sink.taken a.out.now) a.streams.now.page (g.K.Sink.faults a.out.now)) in
+    let y = state l.words slots left output in
+    let w = state l.words lane left output in
+    let n = c.exec_all.new in
+    let after = left_of n.streams.unread in
+    let o = output_of (g.K.Sink.taken n.out) n.streams.page (g.K.Sink.faults n.out) in
+    let z = state n.words n.slots after o in
+    let p = forked b number f body x.around rest in
+    let k = λ (d : Surroundings). iterations_left (f.count - (l.k + 1)) (l.k + 1) f.from f.by body (record { slots = store_of slots; input = d.input }) rest in
+    let q = body (around lane left) k in
+    let here = one_iteration texts f.count l.k f.from f.by body slots lane left rest p x y (omega arith) c.begin_iteration.ensures (l.invariant slots calls number rest) in
+    let there = follows_there texts p x (store_of l.words) y.around w.around output q here in
+    follows_there texts p x (store_of n.words) z.around (around slots after) o (k z.around) (follows_after texts there (c.in_ok-exec_all.ensures calls k))
+
+pub iterate-returns : goal.iterate-returns
+iterate-returns g t c = λ slots calls number rest.
+    let a = c.args in
+    let f = a.fork in
+    let l = c.loop-k in
+    let b = binding a.frame.now in
+    let body = stmt calls b (stmts_of a.body.now) in
+    let x = state a.words.now slots (left_of a.streams.now.unread) (output_of (g.K.Sink.taken a.out.now) a.streams.now.page (g.K.Sink.faults a.out.now)) in
+    let y = state l.words slots (left_of l.streams.unread) (output_of (g.K.Sink.taken l.out) l.streams.page (g.K.Sink.faults l.out)) in
+    no_iteration a.frame.now.program.now.texts f.count l.k f.from f.by body y.around rest (forked b number f body x.around rest) x y (omega arith) (l.invariant slots calls number rest)
