@@ -1,0 +1,10 @@
+pub mod Cuts
+pub mod Exact
+pub mod Fronts
+pub mod Given
+pub mod Listings
+pub mod Numbers
+pub mod Passes
+pub mod Powers
+pub mod Steps
+pub mod Words

@@ -1,1 +1,14 @@
+pub mod Built
+pub mod Events
+pub mod Fits
+pub mod HeaderLines
+pub mod Headers
+pub mod Kept
 pub mod Limits
+pub mod Lines
+pub mod ListedLines
+pub mod Listing
+pub mod Phrases
+pub mod Tail
+pub mod Tails
+pub mod Told
