@@ -1,0 +1,41 @@
+-- What the machine on sound code owes the sequential program, over every list of events.
+use Rattle.std.specs.Prelude.{◌≡◌, ℕ, ◌<◌, List, ◌++◌, None}
+use Rattle.cdc_prog.specs.Data.{Store}
+use Rattle.cdc_prog.specs.Input.{Input}
+use Rattle.cdc_prog.specs.Alone.{Access}
+use Rattle.cdc_prog.specs.Meaning.{meaning}
+use Rattle.cdc_code.specs.declared.code.Code.{Code}
+use Rattle.cdc_code.specs.Frames.{Frame}
+use Rattle.cdc_code.specs.Rows.{act}
+use Rattle.cdc_code.specs.Alone.{Ran, IsAlone, Turned, Iterates}
+use Rattle.cdc_code.specs.Sound.{IsSound}
+use Rattle.cdc_sched.specs.declared.event.Event.{Event}
+use Rattle.cdc_machine.specs.Machine.{Ended, Doall, Over, PhaseOf, StateOf, least_fault}
+use Rattle.cdc_machine.specs.History.{memory}
+use Rattle.cdc_machine.specs.Code.{entry_of, exit_of, run, IsMeant}
+
+-- the accesses that a task has made are the first of those that it makes alone on the store on which its epoch opened
+pub record MadeFront (code : Code) (first : Frame) (opening : Store) (made : List Access) : Type 0 where
+  pub ran : Ran
+  pub alone : IsAlone code first opening ran
+  pub rest : List Access
+  pub front : ran.accesses ≡ made ++ rest
+
+abbrev pub IsOver : {T : Type 0} → PhaseOf T → Type 0
+IsOver (Over end) = Unit {0}
+IsOver phase = ⊥
+
+-- each task of the epoch has ended
+abbrev pub IsComplete : StateOf Frame → Type 0
+IsComplete m = (i : ℕ) → i < m.count → (p : ℕ) × (at : Frame) × (m.tasks i ≡ Ended p at)
+
+pub record EveryInterleaving : Type 0 where
+  -- the machine prints the sequential output: all of it, with the same end, where it has ended, else a front of it
+  pub meaning : (code : Code) (sound : IsSound code) (records : Input) (events : List Event) → IsMeant code.texts (meaning sound.program records) (run code records events).machine
+  -- each task has made a front of what it does alone
+  pub alone : (code : Code) (sound : IsSound code) (records : Input) (events : List Event) → let h = run code records events in
+      (IsOver h.machine.phase → ⊥) → (i : ℕ) → i < h.machine.count → MadeFront code (h.epoch.first i) (memory h.epoch.before) (h.epoch.made i)
+  -- where the iterations of a DOALL have all ended and none has faulted, memory is what they leave in order
+  pub in_order : (code : Code) (sound : IsSound code) (records : Input) (events : List Event) (number : ℕ) (next : Frame) → let h = run code records events in
+      h.machine.phase ≡ Doall number next → IsComplete h.machine → least_fault (act code) (entry_of code) (exit_of code) h.machine ≡ None →
+      (turned : Turned) × Iterates code h.epoch.first (memory h.epoch.before) h.machine.count turned × (turned.left ≡ memory h.calls)
