@@ -3,7 +3,7 @@ ghost use Rattle.std.specs.Prelude.{◌≡◌, ◌++◌};
 ghost use Rattle.cdc_text.specs.Pieces.{Wrote, text_bytes, texts_bytes};
 
 use cdc_base::{Sink, SinkFault, put_all};
-use cdc_num::decimal_u;
+use cdc_num::{decimal, decimal_u};
 
 /// A piece of a text.
 #[derive(Clone, Copy, Debug)]
@@ -11,6 +11,8 @@ pub enum Text<'a> {
     Words(&'a [u8]),
     /// A number in decimal.
     Number(u64),
+    /// A whole number in decimal, with its sign where it is negative.
+    Whole(i64),
 }
 
 /// Writes a text.
@@ -26,6 +28,7 @@ fn write_text<K: Sink>(out: &mut K, text: Text<'_>) -> Result<(), SinkFault>
     match text {
         Text::Words(words) => write_words(out, words),
         Text::Number(n) => write_words(out, decimal_u(n).as_bytes()),
+        Text::Whole(n) => write_words(out, decimal(n).as_bytes()),
     }
 }
 
