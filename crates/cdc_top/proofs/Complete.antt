@@ -1,11 +1,15 @@
 -- A call whose files are good is done, where no count rose and memory was there.
-use Rattle.std.proofs.Common.{◌≡◌, ◌⊎◌, ℕ, zero, suc, ◌≤◌, List, length, refl, sym, ap, subst, arith, inl, inr}
-use Rattle.std.specs.Prelude.{Option, Some, None}
-use Rattle.cdc_top.specs.Answer.{Command, Run, Check, Seq, Usage, Files, IsTold, AreTold, Answers, RunAnswers, SeqAnswers, CheckAnswers, ReadFailed, ToolEnded}
+use Rattle.std.proofs.Common.{◌≡◌, ◌⊎◌, ℕ, zero, suc, ◌≤◌, List, length, refl, sym, ap, subst, ◌∙◌, arith, inl, inr}
+use Rattle.std.specs.Prelude.{Option, Some, None, Ok}
+use Rattle.cdc_compile.specs.Source.{IsProgramOf}
+use Rattle.cdc_prog.specs.Plain.{Program}
+use Rattle.cdc_top.specs.Answer.{Command, Run, Ask, Seq, Usage, Files, IsTold, AreTold, Answers, RunWith, RunAnswers, SeqAnswers, CheckAnswers, ListingAnswers, ReadFailed, ToolEnded}
 use Rattle.cdc_top.specs.Complete.{AllTold, AreGood, HasProgram, AllStayed, IsDone, Completes}
 use Rattle.cdc_top.specs.Report.{Answer}
 use Rattle.cdc_top.specs.Status.{IsFinished}
-use Rattle.cdc_top.proofs.One.{none_accepted}
+use Rattle.cdc_top.specs.declared.source.Question.TheVariants.{Check, Listing}
+use Rattle.cdc_top.specs.Doalls.{first_doall}
+use Rattle.cdc_top.proofs.One.{none_accepted, one_program}
 use Rattle.cdc_top.specs.declared.status.TheConstants.{READ_FAULT, WRITE_FAULT, OUT_OF_MEMORY}
 
 -- a status says that the call ended by itself, or why it did not
@@ -29,18 +33,24 @@ same_bytes (Some held) bytes read is told = cc
 none_failed : (command : Command) (files : Files) (before now : List ℕ → ℕ) → AllStayed command before now → ReadFailed command files before now → ⊥
 none_failed (Run program input schedule) files before now stayed (inl rose) = stayed.0 rose
 none_failed (Run program input schedule) files before now stayed (inr failed) = elim failed.2 [ inl rose ↦ stayed.1 rose | inr later ↦ stayed.2 later.1 ]
-none_failed (Check program) files before now stayed failed = stayed failed
+none_failed (Ask question program) files before now stayed failed = stayed failed
 none_failed (Seq program input) files before now stayed (inl rose) = stayed.0 rose
 none_failed (Seq program input) files before now stayed (inr failed) = stayed.1 failed.2
 none_failed Usage files before now stayed failed = failed
 
 -- ---- the answers over good files
+machine_done : (files : Files) (a : Answer) (program input schedule : List ℕ) (p : Program) → IsProgramOf files.program (Ok p) → AreGood (Run program input schedule) files → RunWith None p files a → IsDone (Run program input schedule) files a.status
+machine_done files a program input schedule p is good (inl long) = absurd (let within : length files.input ≤ 1048576 = good.1.within in omega (arith, long.0, within))
+machine_done files a program input schedule p is good (inr (inl bad)) = absurd (good.1.no_fault bad.0 bad.1.fails.0)
+machine_done files a program input schedule p is good (inr (inr (fine, inl none))) = absurd (none.0 good.2.0 good.2.1)
+machine_done files a program input schedule p is good (inr (inr (fine, inr (bound, header, same)))) = (p, bound, is, header, ap (λ (b : Answer). b.status) same)
+
 run_done : (files : Files) (a : Answer) (program input schedule : List ℕ) → AreGood (Run program input schedule) files → RunAnswers files a → IsDone (Run program input schedule) files a.status
-run_done files a program input schedule good (inl refused) = absurd (none_accepted files.program a good.0.0 refused good.0.1)
-run_done files a program input schedule good (inr (accepted, is, inl long)) = absurd (let within : length files.input ≤ 1048576 = good.1.within in omega (arith, long.0, within))
-run_done files a program input schedule good (inr (accepted, is, inr (inl bad))) = absurd (good.1.no_fault bad.0 bad.1.fails.0)
-run_done files a program input schedule good (inr (accepted, is, inr (inr (fine, inl none)))) = absurd (none.0 good.2.0 good.2.1)
-run_done files a program input schedule good (inr (accepted, is, inr (inr (fine, inr (bound, header, same))))) = (accepted, bound, is, header, ap (λ (b : Answer). b.status) same)
+run_done files a program input schedule good (inl refused) = absurd (none_accepted files.program a good.0.0 refused good.0.1.0)
+run_done files a program input schedule good (inr (accepted, is, answered)) =
+    let same : accepted ≡ good.0.0 = one_program files.program accepted good.0.0 is good.0.1.0 in
+    let serial : first_doall accepted ≡ None = ap first_doall same ∙ good.0.1.1 in
+    machine_done files a program input schedule accepted is good (subst (λ (doall : Option ℕ). RunWith doall accepted files a) serial answered)
 
 seq_done : (files : Files) (a : Answer) (program input : List ℕ) → AreGood (Seq program input) files → SeqAnswers files.program files.input a → IsDone (Seq program input) files a.status
 seq_done files a program input good (inl refused) = absurd (none_accepted files.program a good.0.0 refused good.0.1)
@@ -52,6 +62,10 @@ check_done : (source : List ℕ) (a : Answer) → HasProgram source → CheckAns
 check_done source a good (inl refused) = absurd (none_accepted source a good.0 refused good.1)
 check_done source a good (inr accepted) = ap (λ (b : Answer). b.status) accepted.2
 
+listing_done : (source : List ℕ) (a : Answer) → HasProgram source → ListingAnswers source a → a.status ≡ 0
+listing_done source a good (inl refused) = absurd (none_accepted source a good.0 refused good.1)
+listing_done source a good (inr listed) = ap (λ (b : Answer). b.status) listed.2
+
 -- ---- the files that were read are those that are told
 answered : (command : Command) (told : List ℕ → Option (List ℕ)) (files read : Files) (a : Answer) → AllTold command told files → AreTold command told read → AreGood command files → Answers command read a → IsDone command files a.status
 answered (Run program input schedule) told files read a all are good is =
@@ -60,8 +74,10 @@ answered (Run program input schedule) told files read a all are good is =
     let s : read.schedule ≡ files.schedule = same_bytes (told schedule) files.schedule read.schedule all.2 are.2 in
     let same : read ≡ files = λ k. record { program = p k; input = i k; schedule = s k } in
     run_done files a program input schedule good (subst (λ (f : Files). RunAnswers f a) same is)
-answered (Check program) told files read a all are good is =
+answered (Ask Check program) told files read a all are good is =
     check_done files.program a good (subst (λ (b : List ℕ). CheckAnswers b a) (same_bytes (told program) files.program read.program all are) is)
+answered (Ask Listing program) told files read a all are good is =
+    listing_done files.program a good (subst (λ (b : List ℕ). ListingAnswers b a) (same_bytes (told program) files.program read.program all are) is)
 answered (Seq program input) told files read a all are good is =
     let p : read.program ≡ files.program = same_bytes (told program) files.program read.program all.0 are.0 in
     let i : read.input ≡ files.input = same_bytes (told input) files.input read.input all.1 are.1 in

@@ -1,6 +1,7 @@
 pub mod Digits
 pub mod Replays
 pub mod Ends
+pub mod Doalls
 pub mod Laws
 pub mod Said
 pub mod Played

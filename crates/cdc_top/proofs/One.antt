@@ -1,5 +1,5 @@
 -- `check`, `seq` and `run` have one answer, as a source has.
-use Rattle.std.proofs.Common.{◌≡◌, ◌≢◌, ℕ, ◌≤◌, List, [], ◌∷◌, ◌++◌, length, map, sym, ◌∙◌, ap, subst, arith, inl, inr, Result, Ok, Err}
+use Rattle.std.proofs.Common.{◌≡◌, ◌≢◌, ℕ, ◌≤◌, List, [], ◌∷◌, ◌++◌, length, map, sym, ◌∙◌, ap, subst, arith, inl, inr, Result, Ok, Err, Option, Some, None}
 use Rattle.std.specs.Prelude.{codes}
 use Rattle.std.specs.Str.Parse.{digits_value}
 use Rattle.std.proofs.lemmas.List.{length-map, append_cancel_left, append_cancel_right}
@@ -18,7 +18,11 @@ use Rattle.cdc_prog.specs.Input.{Input}
 use Rattle.cdc_prog.specs.Meaning.{meaning}
 use Rattle.cdc_input.specs.Records.{records_of}
 use Rattle.cdc_top.specs.Schedule.{before_bound, after_bound}
-use Rattle.cdc_top.specs.Answer.{Files, IsHeader, IsRefusedWith, CheckAnswers, SeqAnswers, ScheduleAnswers, RunAnswers, ran}
+use Rattle.cdc_top.specs.Answer.{Files, IsHeader, IsRefusedWith, CheckAnswers, ListingAnswers, SourceAnswers, SeqAnswers, compiled_code, ScheduleAnswers, RunWith, RunAnswers, ran}
+use Rattle.cdc_report.specs.Listing.{code_text}
+use Rattle.cdc_top.specs.declared.source.Question.{Question}
+use Rattle.cdc_top.specs.declared.source.Question.TheVariants.{Check, Listing}
+use Rattle.cdc_top.specs.Doalls.{first_doall}
 use Rattle.cdc_top.specs.Report.{Answer, answer}
 use Rattle.cdc_top.specs.Sequential.{InputIs, IsCarriedOut, IsBadInput, input_bad}
 use Rattle.cdc_top.specs.declared.status.TheConstants.{PROGRAM_REFUSED}
@@ -69,6 +73,18 @@ one_check source a b (inr (p, is, text)) (inr (q, same, words)) =
     let e : program_of p ≡ program_of q = one_program source (program_of p) (program_of q) is same in
     words ∙ ap (λ (t : List ℕ). answer t 0) (sym (text_is q) ∙ ap plain_text (sym e) ∙ text_is p) ∙ sym text
 
+pub one_listing : (source : List ℕ) (a b : Answer) → ListingAnswers source a → ListingAnswers source b → b ≡ a
+one_listing source a b (inl refused) (inl other) = one_refusal source a b refused other
+one_listing source a b (inl refused) (inr (q, is, text)) = absurd (none_accepted source a q refused is)
+one_listing source a b (inr (p, is, text)) (inl other) = absurd (none_accepted source b p other is)
+one_listing source a b (inr (p, is, text)) (inr (q, same, words)) =
+    words ∙ ap (λ (r : plain.Program). answer (code_text r (compiled_code r)) 0) (one_program source q p same is) ∙ sym text
+
+-- a source has one answer to a question
+pub one_source : (question : Question) (source : List ℕ) (a b : Answer) → SourceAnswers question source a → SourceAnswers question source b → b ≡ a
+one_source Check = one_check
+one_source Listing = one_listing
+
 -- two least places are one
 one_place : (p q : Place) → IsNotAfter p q → IsNotAfter q p → p ≡ q
 one_place p q a b =
@@ -111,10 +127,18 @@ one_schedule p schedule records a b (inl (none, is)) (inr (bound, header, same))
 one_schedule p schedule records a b (inr (bound, header, is)) (inl (none, same)) = absurd (none bound header)
 one_schedule p schedule records a b (inr (bound, header, is)) (inr (other, also, same)) = same ∙ ap (ran p records) (one_bound schedule bound other header also) ∙ sym is
 
+one_with : (doall : Option ℕ) (p : plain.Program) (files : Files) (a b : Answer) → RunWith doall p files a → RunWith doall p files b → b ≡ a
+one_with (Some line) p files a b is same = same ∙ sym is
+one_with None p files a b answered words = one_input (ScheduleAnswers p files.schedule) files.input a b (one_schedule p files.schedule (records_of files.input) a b) answered words
+
 pub one_run : (files : Files) (a b : Answer) → RunAnswers files a → RunAnswers files b → b ≡ a
 one_run files a b (inl refused) (inl other) = one_refusal files.program a b refused other
 one_run files a b (inl refused) (inr (q, is, text)) = absurd (none_accepted files.program a q refused is)
 one_run files a b (inr (p, is, answered)) (inl other) = absurd (none_accepted files.program b p other is)
 one_run files a b (inr (p, is, answered)) (inr (q, same, words)) =
-    one_input (ScheduleAnswers p files.schedule) files.input a b (one_schedule p files.schedule (records_of files.input) a b) answered
-    (subst (λ (r : plain.Program). InputIs (ScheduleAnswers r files.schedule) files.input b) (one_program files.program q p same is) words)
+    one_with (first_doall p) p files a b answered (subst (λ (r : plain.Program). RunWith (first_doall r) r files b) (one_program files.program q p same is) words)
+
+-- a refusal answers each question
+pub refused_answers : (question : Question) (source : List ℕ) (a : Answer) → IsRefusedWith source a → SourceAnswers question source a
+refused_answers Check source a refused = inl refused
+refused_answers Listing source a refused = inl refused

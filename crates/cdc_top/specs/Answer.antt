@@ -5,9 +5,10 @@ use Rattle.cdc_base.specs.Causes.{Rose}
 use Rattle.cdc_base.specs.Outside.{grown}
 use Rattle.cdc_epoch.specs.Machine.{run}
 use Rattle.cdc_compile.specs.declared.refusal.Refusal.{Refusal}
-use Rattle.cdc_compile.specs.declared.refusal.Refusal.TheVariants.{Memory}
+use Rattle.cdc_compile.specs.declared.refusal.Refusal.TheVariants.{Parse, Memory}
 use Rattle.cdc_compile.specs.Source.{IsProgramOf}
 use Rattle.cdc_compile.specs.Texts.{accepted_text, refusal_text}
+use Rattle.cdc_tree.specs.declared.refusal.ParseRefusal.TheVariants.{NotAStatement}
 use Rattle.cdc_prog.specs.declared.program.Program.{Program}
 use Rattle.cdc_prog.specs.Plain as plain
 use Rattle.cdc_prog.specs.Translation.{program_of}
@@ -16,7 +17,11 @@ use Rattle.cdc_prog.specs.Meaning.{meaning}
 use Rattle.cdc_code.specs.declared.code.Code.{Code}
 use Rattle.cdc_code.specs.Template.{code_of}
 use Rattle.cdc_compile.specs.Compiled.{ordinary_marks}
+use Rattle.cdc_report.specs.Listing.{code_text}
 use Rattle.cdc_text.specs.Pieces.{GrewByFront}
+use Rattle.cdc_top.specs.declared.source.Question.{Question}
+use Rattle.cdc_top.specs.declared.source.Question.TheVariants.{Check, Listing}
+use Rattle.cdc_top.specs.Doalls.{first_doall}
 use Rattle.cdc_top.specs.Report.{Answer, answer, joined, line, printed, outcome_of, status_of}
 use Rattle.cdc_top.specs.Schedule.{IsSchedule}
 use Rattle.cdc_top.specs.Sequential.{InputIs, IsCarriedOut, IsGoodInput}
@@ -27,7 +32,7 @@ use Rattle.cdc_top.specs.declared.status.TheConstants.{NO_COMMAND, PROGRAM_REFUS
 -- a command by its words
 pub data Command : Type 0 where
   Run : (program input schedule : List ℕ) → Command
-  Check : (program : List ℕ) → Command
+  Ask : Question → (program : List ℕ) → Command
   Seq : (program input : List ℕ) → Command
   Usage : Command
 
@@ -40,8 +45,16 @@ abbrev pub run_of : List ℕ → List ℕ → List ℕ → List ℕ → Command
 run_of verb program input schedule =
     if bytes_eq verb (codes "run") && (is_name program && (is_name input && is_name schedule)) then Run program input schedule else Usage
 
-abbrev pub check_of : List ℕ → List ℕ → Command
-check_of verb program = if bytes_eq verb (codes "check") && is_name program then Check program else Usage
+-- what is asked of a source by one word
+abbrev pub question_of : List ℕ → Option Question
+question_of verb = if bytes_eq verb (codes "check") then Some Check else if bytes_eq verb (codes "code") then Some Listing else None
+
+abbrev pub asked : Option Question → List ℕ → Command
+asked None program = Usage
+asked (Some question) program = if is_name program then Ask question program else Usage
+
+abbrev pub ask_of : List ℕ → List ℕ → Command
+ask_of verb program = asked (question_of verb) program
 
 abbrev pub seq_of : List ℕ → List ℕ → List ℕ → Command
 seq_of verb program input = if bytes_eq verb (codes "seq") && (is_name program && is_name input) then Seq program input else Usage
@@ -49,7 +62,7 @@ seq_of verb program input = if bytes_eq verb (codes "seq") && (is_name program &
 abbrev pub command_of : List (List ℕ) → Command
 command_of [] = Usage
 command_of (verb ∷ []) = Usage
-command_of (verb ∷ program ∷ []) = check_of verb program
+command_of (verb ∷ program ∷ []) = ask_of verb program
 command_of (verb ∷ program ∷ input ∷ []) = seq_of verb program input
 command_of (verb ∷ program ∷ input ∷ schedule ∷ []) = run_of verb program input schedule
 command_of (verb ∷ program ∷ input ∷ schedule ∷ more ∷ words) = Usage
@@ -75,7 +88,7 @@ schedule_refused = answer (line (codes "refused header line 1")) INPUT_REFUSED
 
 -- the code that a program is compiled to
 abbrev pub compiled_code : plain.Program → Code
-compiled_code p = code_of p (ordinary_marks p.sites)
+compiled_code p = code_of p (ordinary_marks p.sites p.doalls)
 
 -- a run prints its output and the lines on it, with the status of its end
 abbrev pub ran : plain.Program → Input → (bound : ℕ) → Answer
@@ -94,18 +107,38 @@ IsRefusedWith source a = (refusal : Refusal) × (refusal ≢ Memory) × IsProgra
 abbrev pub CheckAnswers : List ℕ → Answer → Type 0
 CheckAnswers source a = IsRefusedWith source a ⊎ ((program : Program) × IsProgramOf source (Ok (program_of program)) × (a ≡ answer (accepted_text program) DONE))
 
+-- or its code is listed
+abbrev pub ListingAnswers : List ℕ → Answer → Type 0
+ListingAnswers source a = IsRefusedWith source a ⊎ ((program : plain.Program) × IsProgramOf source (Ok program) × (a ≡ answer (code_text program (compiled_code program)) DONE))
+
+abbrev pub SourceAnswers : Question → List ℕ → Answer → Type 0
+SourceAnswers Check = CheckAnswers
+SourceAnswers Listing = ListingAnswers
+
 -- or the input is refused, or what the program prints on its records is answered, with its end
 abbrev pub SeqAnswers : List ℕ → List ℕ → Answer → Type 0
 SeqAnswers source input a = IsRefusedWith source a ⊎ ((program : plain.Program) × IsProgramOf source (Ok program) × InputIs (IsCarriedOut (meaning program)) input a)
 
+-- the first DOALL is refused, since the machine forks nothing yet
+abbrev pub doall_refused : (line : ℕ) → Answer
+doall_refused line = answer (refusal_text (Parse (NotAStatement line))) PROGRAM_REFUSED
+
 -- or the input or the schedule is refused, or the program is run
+abbrev pub RunWith : (doall : Option ℕ) → plain.Program → Files → Answer → Type 0
+RunWith (Some line) p files a = a ≡ doall_refused line
+RunWith None p files a = InputIs (ScheduleAnswers p files.schedule) files.input a
+
 abbrev pub RunAnswers : Files → Answer → Type 0
-RunAnswers files a = IsRefusedWith files.program a ⊎ ((program : plain.Program) × IsProgramOf files.program (Ok program) × InputIs (ScheduleAnswers program files.schedule) files.input a)
+RunAnswers files a = IsRefusedWith files.program a ⊎ ((program : plain.Program) × IsProgramOf files.program (Ok program) × RunWith (first_doall program) program files a)
+
+-- an accepted program without DOALL
+abbrev pub IsRunnable : (source : List ℕ) → plain.Program → Type 0
+IsRunnable source p = IsProgramOf source (Ok p) × (first_doall p ≡ None)
 
 -- the answer to a command over the bytes of its files
 abbrev pub Answers : Command → Files → Answer → Type 0
 Answers (Run program input schedule) files a = RunAnswers files a
-Answers (Check program) files a = CheckAnswers files.program a
+Answers (Ask question program) files a = SourceAnswers question files.program a
 Answers (Seq program input) files a = SeqAnswers files.program files.input a
 Answers Usage files a = a ≡ answer usage_text NO_COMMAND
 
@@ -117,7 +150,7 @@ IsTold (Some told) bytes = bytes ≡ told
 -- the files of a command have the bytes that the store tells, where it tells them
 abbrev pub AreTold : Command → (List ℕ → Option (List ℕ)) → Files → Type 0
 AreTold (Run program input schedule) told files = IsTold (told program) files.program × IsTold (told input) files.input × IsTold (told schedule) files.schedule
-AreTold (Check program) told files = IsTold (told program) files.program
+AreTold (Ask question program) told files = IsTold (told program) files.program
 AreTold (Seq program input) told files = IsTold (told program) files.program × IsTold (told input) files.input
 AreTold Usage told files = Unit {0}
 
@@ -127,8 +160,8 @@ InputFailed input schedule files before now = Rose (before input) (now input) �
 
 abbrev pub ReadFailed : Command → Files → (List ℕ → ℕ) → (List ℕ → ℕ) → Type 0
 ReadFailed (Run program input schedule) files before now =
-    Rose (before program) (now program) ⊎ ((accepted : plain.Program) × IsProgramOf files.program (Ok accepted) × InputFailed input schedule files before now)
-ReadFailed (Check program) files before now = Rose (before program) (now program)
+    Rose (before program) (now program) ⊎ ((accepted : plain.Program) × IsRunnable files.program accepted × InputFailed input schedule files before now)
+ReadFailed (Ask question program) files before now = Rose (before program) (now program)
 ReadFailed (Seq program input) files before now =
     Rose (before program) (now program) ⊎ ((accepted : plain.Program) × IsProgramOf files.program (Ok accepted) × Rose (before input) (now input))
 ReadFailed Usage files before now = ⊥
@@ -151,6 +184,10 @@ pub record Ended (are_told : Files → Type 0) (answers only : Files → Answer 
   pub write_fault : status ≡ WRITE_FAULT → Rose sink_before sink_now
   -- no fault is passed over
   pub quiet : IsFinished status → ((name : List ℕ) → now name ≡ before name) × (sink_now ≡ sink_before)
+
+-- the same of a step of a command, where the answer is not said to be the only one
+abbrev pub StepEnded : (are_told : Files → Type 0) (answers : Files → Answer → Type 0) (failed : Files → Type 0) → ℕ → Option (List ℕ) → Option (List ℕ) → (List ℕ → ℕ) → (List ℕ → ℕ) → ℕ → ℕ → Type 0
+StepEnded are_told answers failed status old new before now sink_before sink_now = Ended are_told answers answers failed status old new before now sink_before sink_now
 
 -- how a call of the tool ended
 abbrev pub ToolEnded : Command → (List ℕ → Option (List ℕ)) → ℕ → Option (List ℕ) → Option (List ℕ) → (List ℕ → ℕ) → (List ℕ → ℕ) → ℕ → ℕ → Type 0

@@ -6,7 +6,7 @@ use Rattle.cdc_input.specs.Records.{records_of}
 use Rattle.cdc_prog.specs.Meaning.{meaning}
 use Rattle.cdc_prog.specs.Plain.{Program}
 use Rattle.cdc_epoch.specs.Stands.{outcome_of_end}
-use Rattle.cdc_top.specs.Answer.{Command, Run, Check, Seq, Usage, Files, IsHeader, ran}
+use Rattle.cdc_top.specs.Answer.{Command, Run, Ask, Seq, Usage, Files, IsHeader, IsRunnable, ran}
 use Rattle.cdc_top.specs.Report.{status_of}
 use Rattle.cdc_top.specs.Sequential.{IsGoodInput}
 use Rattle.cdc_top.specs.declared.status.TheConstants.{DONE, NO_COMMAND, OUT_OF_MEMORY}
@@ -14,7 +14,7 @@ use Rattle.cdc_top.specs.declared.status.TheConstants.{DONE, NO_COMMAND, OUT_OF_
 -- the store tells the bytes of each file of the command
 abbrev pub AllTold : Command → (List ℕ → Option (List ℕ)) → Files → Type 0
 AllTold (Run program input schedule) told files = (told program ≡ Some files.program) × (told input ≡ Some files.input) × (told schedule ≡ Some files.schedule)
-AllTold (Check program) told files = told program ≡ Some files.program
+AllTold (Ask question program) told files = told program ≡ Some files.program
 AllTold (Seq program input) told files = (told program ≡ Some files.program) × (told input ≡ Some files.input)
 AllTold Usage told files = Unit {0}
 
@@ -24,8 +24,8 @@ HasProgram source = (accepted : Program) × IsProgramOf source (Ok accepted)
 
 -- nothing of the files is refused
 abbrev pub AreGood : Command → Files → Type 0
-AreGood (Run program input schedule) files = HasProgram files.program × IsGoodInput files.input × ((bound : ℕ) × IsHeader files.schedule bound)
-AreGood (Check program) files = HasProgram files.program
+AreGood (Run program input schedule) files = ((accepted : Program) × IsRunnable files.program accepted) × IsGoodInput files.input × ((bound : ℕ) × IsHeader files.schedule bound)
+AreGood (Ask question program) files = HasProgram files.program
 AreGood (Seq program input) files = HasProgram files.program × IsGoodInput files.input
 AreGood Usage files = Unit {0}
 
@@ -37,15 +37,15 @@ Stayed before now = Rose before now → ⊥
 abbrev pub AllStayed : Command → (before now : List ℕ → ℕ) → Type 0
 AllStayed (Run program input schedule) before now =
     Stayed (before program) (now program) × Stayed (before input) (now input) × Stayed (before schedule) (now schedule)
-AllStayed (Check program) before now = Stayed (before program) (now program)
+AllStayed (Ask question program) before now = Stayed (before program) (now program)
 AllStayed (Seq program input) before now = Stayed (before program) (now program) × Stayed (before input) (now input)
 AllStayed Usage before now = Unit {0}
 
--- the status says that the command is done: how the run or the program ended, or that the program is accepted
+-- the status says that the command is done: how the run or the program ended, or that the program is accepted or listed
 abbrev pub IsDone : Command → Files → (status : ℕ) → Type 0
 IsDone (Run program input schedule) files status =
     (accepted : Program) × (bound : ℕ) × IsProgramOf files.program (Ok accepted) × IsHeader files.schedule bound × (status ≡ (ran accepted (records_of files.input) bound).status)
-IsDone (Check program) files status = status ≡ DONE
+IsDone (Ask question program) files status = status ≡ DONE
 IsDone (Seq program input) files status =
     (accepted : Program) × IsProgramOf files.program (Ok accepted) × (status ≡ status_of (outcome_of_end (meaning accepted (records_of files.input)).end))
 IsDone Usage files status = status ≡ NO_COMMAND

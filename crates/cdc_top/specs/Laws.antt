@@ -1,17 +1,16 @@
 -- What a run owes the sequential program and the memory.
-use Rattle.std.specs.Prelude.{◌≡◌, ℕ, ◌<◌, None, Ok}
-use Rattle.cdc_compile.specs.Source.{IsProgramOf}
+use Rattle.std.specs.Prelude.{◌≡◌, ℕ, ◌<◌, None}
 use Rattle.cdc_input.specs.Records.{records_of}
 use Rattle.cdc_prog.specs.Meaning.{meaning}
 use Rattle.cdc_prog.specs.Plain.{Program}
 use Rattle.cdc_epoch.specs.Machine.{event, run}
 use Rattle.cdc_epoch.specs.Laws.{IsMeant, HitGivesMemory, hits}
-use Rattle.cdc_top.specs.Answer.{Files, IsHeader, compiled_code}
+use Rattle.cdc_top.specs.Answer.{Files, IsHeader, IsRunnable, compiled_code}
 use Rattle.cdc_top.specs.Sequential.{IsGoodInput}
 
 -- the files of a run of which nothing is refused
 pub record AreRun (files : Files) (p : Program) (bound : ℕ) : Type 0 where
-  pub accepted : IsProgramOf files.program (Ok p)
+  pub runnable : IsRunnable files.program p
   pub good : IsGoodInput files.input
   pub header : IsHeader files.schedule bound
 

@@ -1,6 +1,7 @@
 pub mod Answer
 pub mod Chosen
 pub mod Complete
+pub mod Doalls
 pub mod Laws
 pub mod Replay
 pub mod Report

@@ -2,6 +2,7 @@
 #![tactic(auto)]
 
 mod check;
+mod doall;
 mod input;
 mod limits;
 mod replay;
@@ -9,6 +10,7 @@ mod report;
 mod run;
 mod schedule;
 mod seq;
+mod source;
 mod status;
 #[cfg(test)]
 mod tests;

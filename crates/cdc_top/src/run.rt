@@ -1,18 +1,18 @@
 // The command `run`: a program is carried out by the machine, as its schedule says.
-ghost use Rattle.std.specs.Prelude.{◌≡◌, ◌≤◌, ℕ, List as Items, Ok, length, IfOk};
+ghost use Rattle.std.specs.Prelude.{◌≡◌, ◌≤◌, ℕ, List as Items, length, IfOk};
 ghost use Rattle.cdc_base.specs.Causes.{Rose};
-ghost use Rattle.cdc_compile.specs.Source.{IsProgramOf};
 ghost use Rattle.cdc_epoch.specs.Machine.{run};
 ghost use Rattle.cdc_prog.specs.Plain as plain;
 ghost use Rattle.cdc_prog.specs.Translation.{program_of};
 ghost use Rattle.cdc_text.specs.Pieces.{Wrote};
-ghost use Rattle.cdc_top.specs.Answer.{Run, RunAnswers, ScheduleAnswers, InputFailed, IsTold, Ended, ToolEnded, Said, SaidOneOf, ran, compiled_code};
+ghost use Rattle.cdc_top.specs.Answer.{Run, RunAnswers, ScheduleAnswers, InputFailed, IsRunnable, IsTold, StepEnded, ToolEnded, Said, SaidOneOf, ran, compiled_code};
 ghost use Rattle.cdc_top.specs.Replay.{CanRun, Ran};
 ghost use Rattle.cdc_top.specs.Report.{answer, printed, outcome_of};
 ghost use Rattle.cdc_top.specs.Sequential.{InputIs, IsGoodInput};
 ghost use Rattle.cdc_top.specs.Status.{IsFinished};
 
 use crate::check::say_refused;
+use crate::doall::first_doall;
 use crate::input::{say_bad_input, say_long_input};
 use crate::limits::{INPUT_LIMIT, SCHEDULE_LIMIT};
 use crate::replay::replay;
@@ -26,6 +26,7 @@ use cdc_epoch::{Machine, Outcome};
 use cdc_input::{InputRecords, InputRefusal, records};
 use cdc_prog::{Kind, limit};
 use cdc_text::write_words;
+use cdc_tree::ParseRefusal;
 use std::alloc::Global;
 
 /// Writes a text, and ends with this status.
@@ -62,7 +63,7 @@ fn run_machine<K: Sink>(
     bound: u64,
     out: &mut K,
 ) -> u8
-    requires accepted { (source : Items ℕ) × IsProgramOf source (Ok (program_of compiled.program)) }
+    requires runnable { (source : Items ℕ) × IsRunnable source (program_of compiled.program) }
     requires code { compiled.code ≡ compiled_code (program_of compiled.program) }
     ensures { SaidOneOf (λ a. a ≡ ran (program_of compiled.program) records.records bound) result (K.taken out.old) (K.taken out.new) (K.faults out.old) (K.faults out.new) }
 {
@@ -84,9 +85,9 @@ fn run_schedule<S: Store, K: Sink>(
     store: &mut S,
     out: &mut K,
 ) -> u8
-    requires accepted { (source : Items ℕ) × IsProgramOf source (Ok (program_of compiled.program)) }
+    requires runnable { (source : Items ℕ) × IsRunnable source (program_of compiled.program) }
     requires code { compiled.code ≡ compiled_code (program_of compiled.program) }
-    ensures { Ended (λ files. IsTold (S.told store.old schedule.now) files.schedule) (λ files a. ScheduleAnswers (program_of compiled.program) files.schedule records.records a) (λ files a. ScheduleAnswers (program_of compiled.program) files.schedule records.records a)
+    ensures { StepEnded (λ files. IsTold (S.told store.old schedule.now) files.schedule) (λ files a. ScheduleAnswers (program_of compiled.program) files.schedule records.records a)
         (λ files. Rose (S.faults store.old schedule.now) (S.faults store.new schedule.now)) result
         (K.taken out.old) (K.taken out.new) (S.faults store.old) (S.faults store.new) (K.faults out.old) (K.faults out.new) }
 {
@@ -110,10 +111,10 @@ fn run_input<S: Store, K: Sink>(
     store: &mut S,
     out: &mut K,
 ) -> u8
-    requires accepted { (source : Items ℕ) × IsProgramOf source (Ok (program_of compiled.program)) }
+    requires runnable { (source : Items ℕ) × IsRunnable source (program_of compiled.program) }
     requires code { compiled.code ≡ compiled_code (program_of compiled.program) }
     requires within { length input.now ≤ INPUT_LIMIT }
-    ensures { Ended (λ files. IsTold (S.told store.old schedule.now) files.schedule) (λ files a. InputIs (ScheduleAnswers (program_of compiled.program) files.schedule) input.now a) (λ files a. InputIs (ScheduleAnswers (program_of compiled.program) files.schedule) input.now a)
+    ensures { StepEnded (λ files. IsTold (S.told store.old schedule.now) files.schedule) (λ files a. InputIs (ScheduleAnswers (program_of compiled.program) files.schedule) input.now a)
         (λ files. IsGoodInput input.now × Rose (S.faults store.old schedule.now) (S.faults store.new schedule.now)) result
         (K.taken out.old) (K.taken out.new) (S.faults store.old) (S.faults store.new) (K.faults out.old) (K.faults out.new) }
 {
@@ -133,9 +134,9 @@ fn run_compiled<S: Store, K: Sink>(
     store: &mut S,
     out: &mut K,
 ) -> u8
-    requires accepted { (source : Items ℕ) × IsProgramOf source (Ok (program_of compiled.program)) }
+    requires runnable { (source : Items ℕ) × IsRunnable source (program_of compiled.program) }
     requires code { compiled.code ≡ compiled_code (program_of compiled.program) }
-    ensures { Ended (λ files. IsTold (S.told store.old input.now) files.input × IsTold (S.told store.old schedule.now) files.schedule) (λ files a. InputIs (ScheduleAnswers (program_of compiled.program) files.schedule) files.input a) (λ files a. InputIs (ScheduleAnswers (program_of compiled.program) files.schedule) files.input a)
+    ensures { StepEnded (λ files. IsTold (S.told store.old input.now) files.input × IsTold (S.told store.old schedule.now) files.schedule) (λ files a. InputIs (ScheduleAnswers (program_of compiled.program) files.schedule) files.input a)
         (λ files. InputFailed input.now schedule.now files (S.faults store.old) (S.faults store.new)) result
         (K.taken out.old) (K.taken out.new) (S.faults store.old) (S.faults store.new) (K.faults out.old) (K.faults out.new) }
 {
@@ -156,12 +157,15 @@ fn run_source<S: Store, K: Sink>(
     store: &mut S,
     out: &mut K,
 ) -> u8
-    ensures { Ended (λ files. (source.now ≡ files.program) × IsTold (S.told store.old input.now) files.input × IsTold (S.told store.old schedule.now) files.schedule) RunAnswers RunAnswers
-        (λ files. (p : plain.Program) × IsProgramOf files.program (Ok p) × InputFailed input.now schedule.now files (S.faults store.old) (S.faults store.new)) result
+    ensures { StepEnded (λ files. (source.now ≡ files.program) × IsTold (S.told store.old input.now) files.input × IsTold (S.told store.old schedule.now) files.schedule) RunAnswers
+        (λ files. (p : plain.Program) × IsRunnable files.program p × InputFailed input.now schedule.now files (S.faults store.old) (S.faults store.new)) result
         (K.taken out.old) (K.taken out.new) (S.faults store.old) (S.faults store.new) (K.faults out.old) (K.faults out.new) }
 {
     match compile(alloc, source) {
-        Ok(compiled) => run_compiled(alloc, compiled, input, schedule, store, out),
+        Ok(compiled) => match first_doall(&compiled.program) {
+            None => run_compiled(alloc, compiled, input, schedule, store, out),
+            Some(line) => say_refused(Refusal::Parse(ParseRefusal::NotAStatement(line)), out),
+        },
         Err(Refusal::Memory) => OUT_OF_MEMORY,
         Err(refusal) => say_refused(refusal, out),
     }

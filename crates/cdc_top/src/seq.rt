@@ -4,9 +4,9 @@ ghost use Rattle.cdc_base.specs.Causes.{Rose};
 ghost use Rattle.cdc_compile.specs.Source.{IsProgramOf};
 ghost use Rattle.cdc_prog.specs.Meaning.{meaning};
 ghost use Rattle.cdc_prog.specs.Plain as plain;
-ghost use Rattle.cdc_prog.specs.Resolved.{IsResolved, IsSerial};
+ghost use Rattle.cdc_prog.specs.Resolved.{IsResolved, HasNoCall};
 ghost use Rattle.cdc_prog.specs.Translation.{program_of};
-ghost use Rattle.cdc_top.specs.Answer.{Seq, SeqAnswers, IsTold, Ended, ToolEnded, Said, SaidOneOf};
+ghost use Rattle.cdc_top.specs.Answer.{Seq, SeqAnswers, IsTold, StepEnded, ToolEnded, Said, SaidOneOf};
 ghost use Rattle.cdc_top.specs.Report.{answer, end_line, status_of};
 ghost use Rattle.cdc_top.specs.Sequential.{InputIs, IsCarriedOut, carried_out};
 
@@ -38,7 +38,7 @@ fn close<K: Sink>(is_open: bool, outcome: Outcome, out: &mut K) -> u8
 // Carries out a program on its records, and writes what it prints and how it ended.
 fn play<K: Sink>(alloc: Global, program: &Program, records: &InputRecords, out: &mut K) -> u8
     requires resolved { IsResolved (program_of program.now) }
-    requires serial { IsSerial (program_of program.now) }
+    requires calls { HasNoCall (program_of program.now) }
     ensures { SaidOneOf (λ a. a ≡ carried_out (meaning (program_of program.now) records.now.records)) result (K.taken out.old) (K.taken out.new) (K.faults out.old) (K.faults out.new) }
 {
     let ran = run_lines(alloc, program, records, out);
@@ -53,7 +53,7 @@ fn play<K: Sink>(alloc: Global, program: &Program, records: &InputRecords, out: 
 // Carries out a program on the bytes of its input.
 fn play_input<K: Sink>(alloc: Global, program: &Program, input: &[u8], out: &mut K) -> u8
     requires resolved { IsResolved (program_of program.now) }
-    requires serial { IsSerial (program_of program.now) }
+    requires calls { HasNoCall (program_of program.now) }
     requires within { length input.now ≤ INPUT_LIMIT }
     ensures { SaidOneOf (InputIs (IsCarriedOut (meaning (program_of program.now))) input.now) result (K.taken out.old) (K.taken out.new) (K.faults out.old) (K.faults out.new) }
 {
@@ -73,8 +73,8 @@ fn seq_program<S: Store, K: Sink>(
     out: &mut K,
 ) -> u8
     requires resolved { IsResolved (program_of program.now) }
-    requires serial { IsSerial (program_of program.now) }
-    ensures { Ended (λ files. IsTold (S.told store.old input.now) files.input) (λ files a. InputIs (IsCarriedOut (meaning (program_of program.now))) files.input a) (λ files a. InputIs (IsCarriedOut (meaning (program_of program.now))) files.input a)
+    requires calls { HasNoCall (program_of program.now) }
+    ensures { StepEnded (λ files. IsTold (S.told store.old input.now) files.input) (λ files a. InputIs (IsCarriedOut (meaning (program_of program.now))) files.input a)
         (λ files. Rose (S.faults store.old input.now) (S.faults store.new input.now)) result
         (K.taken out.old) (K.taken out.new) (S.faults store.old) (S.faults store.new) (K.faults out.old) (K.faults out.new) }
 {
@@ -94,7 +94,7 @@ fn seq_source<S: Store, K: Sink>(
     store: &mut S,
     out: &mut K,
 ) -> u8
-    ensures { Ended (λ files. IsTold (S.told store.old input.now) files.input) (λ files a. SeqAnswers source.now files.input a) (λ files a. SeqAnswers source.now files.input a)
+    ensures { StepEnded (λ files. IsTold (S.told store.old input.now) files.input) (λ files a. SeqAnswers source.now files.input a)
         (λ files. (accepted : plain.Program) × IsProgramOf source.now (Ok accepted) × Rose (S.faults store.old input.now) (S.faults store.new input.now)) result
         (K.taken out.old) (K.taken out.new) (S.faults store.old) (S.faults store.new) (K.faults out.old) (K.faults out.new) }
 {

@@ -68,6 +68,11 @@ const RUN: &str = "run,one.f,one.in,one.s";
 
 const CHECK: &str = "check,one.f";
 
+const CODE: &str = "code,one.f";
+
+const LISTED: &str =
+    "0 const 2\n1 const 3\n2 add\n3 store ONE.N site 1\n4 load ONE.N site 2 ordinary\n5 const 1\n6 add\n7 put\n8 line\n9 halt\n";
+
 const ACCEPTED: &str = "accepted units 1 objects 1 words 1 sites 2 doalls 0\n";
 
 const SEQ: &str = "seq,one.f,one.in";
@@ -115,6 +120,11 @@ fn files_are_answered(rt: HostRuntime) -> Result<(), Fail> {
             ["PROGRAM END\nN = 2 + 3\nPRINT *, N + 1\nEND\n", "", HEADER],
             3,
             PROGRAM_REFUSED,
+        ),
+        (
+            ["PROGRAM Z\nDOALL I = 5, 4\nEND DOALL\nEND\n", "x", ""],
+            3,
+            "refused NotAStatement at line 2\n",
         ),
         ([ONE, "x", ""], 4, INPUT_REFUSED),
         ([ONE, "1", ""], 4, SCHEDULE_REFUSED),
@@ -188,14 +198,49 @@ fn programs_are_checked(rt: HostRuntime) -> Result<(), Fail> {
             "refused TooMany words limit 4194304\n",
         ),
         (
-            "DOALL K = 1, 2\nEND DOALL",
+            "DOALL K = 1, 2\nPRINT *, K\nEND DOALL",
             3,
-            "refused NotAStatement at line 2\n",
+            "refused DoallBody at 3:1\n",
+        ),
+        (
+            "DOALL K = 1, 2\nN = K\nEND DOALL",
+            3,
+            "refused NotPrivate at 3:1\n",
+        ),
+        (
+            "INTEGER A(10)\nDOALL I = 1, 9\nA(I) = A(I + 1)\nEND DOALL",
+            3,
+            "refused Conflict at 4:8 and 4:1\n",
         ),
         (
             "N = 1\nIF (N == 1) CALL Q",
             3,
             "refused NotAStatement at line 3\n",
+        ),
+        (
+            "DOALL K = 1, 2\nIF (K == 1) PRINT *, K\nEND DOALL",
+            3,
+            "refused DoallBody at 3:13\n",
+        ),
+        (
+            "DOALL K = 1, 2\nDOALL J = 1, 2\nEND DOALL\nEND DOALL",
+            3,
+            "refused DoallBody at 3:1\n",
+        ),
+        (
+            "DOALL K = 1, 2 PRIVATE(J)\nDO L = 1, 2\nEND DO\nEND DOALL",
+            3,
+            "refused NotPrivate at 3:4\n",
+        ),
+        (
+            "DOALL K = 1, 2\nK = 3\nEND DOALL",
+            3,
+            "refused NotPrivate at 3:1\n",
+        ),
+        (
+            "DOALL K = 1, 2 PRIVATE(K)\nEND DOALL",
+            3,
+            "refused Duplicate at 2:7 and 2:24\n",
         ),
         ("INTEGER A, A\nX = 1", 3, "refused Undeclared at 3:1\n"),
         (
@@ -288,6 +333,16 @@ fn programs_are_checked(rt: HostRuntime) -> Result<(), Fail> {
             "accepted units 1 objects 1 words 1 sites 4 doalls 0\n",
         ),
         (
+            "INTEGER A(19)\nDOALL I = 1, 9\nA(2*I) = A(2*I + 1)\nEND DOALL",
+            0,
+            "accepted units 1 objects 2 words 20 sites 2 doalls 1\n",
+        ),
+        (
+            "INTEGER A(10:129)\nDOALL I = 1, 10 PRIVATE(J)\nDO J = 0, 9\nA(10*I + J) = I\nEND DO\nEND DOALL",
+            0,
+            "accepted units 1 objects 3 words 122 sites 1 doalls 1\n",
+        ),
+        (
             "INTEGER, PARAMETER :: P = MOD(-7, 3), Q = -7 / 2, R = MIN(5, 4, 6)\nINTEGER A(P:Q + 3), B(R)",
             0,
             "accepted units 1 objects 2 words 6 sites 0 doalls 0\n",
@@ -357,6 +412,31 @@ fn a_program_has_its_limit(rt: HostRuntime) -> Result<(), Fail> {
         let mut program = ONE.as_bytes().to_vec(rt.alloc())?;
         program.resize(length, b'\n')?;
         let mut store = PlainStore::new(one_file(rt.alloc(), program)?);
+        let mut sink = MemSink::new(rt.alloc(), 1000, Vec::new(rt.alloc()))?;
+        let got = run_tool(rt.alloc(), &words, &mut store, &mut sink);
+        assert_eq!(rt; got, status, "{text}");
+        assert_eq!(rt; sink.bytes(), text.as_bytes(), "{text}");
+    }
+    Ok(())
+}
+
+// Programs, each with its listing.
+#[test]
+fn code_is_listed(rt: HostRuntime) -> Result<(), Fail> {
+    let words = split_words(rt.alloc(), CODE)?;
+    for (program, status, text) in [
+        (ONE, 0, LISTED),
+        ("PROGRAM P\nX = 1\nEND\n", 3, "refused Undeclared at 2:1\n"),
+        (
+            "PROGRAM L\nINTEGER A(2)\nDO K = 2, 1, -1\nPRINT *, 'a', A(K)\nEND DO\nDOALL I = 1, 2 PRIVATE(J)\nJ = I\nEND DOALL\nEND\n",
+            0,
+            "0 const 2\n1 const 1\n2 const 1\n3 neg\n4 doinit\n5 store L.K site 1\n6 dotest 12\n7 text 0\n8 load L.K site 2 ordinary\n9 index L.A\n10 loade L.A site 3 ordinary\n11 gap\n12 put\n13 line\n14 load L.K site 4 ordinary\n15 doadd\n16 store L.K site 5\n17 jump -11\n18 const 1\n19 const 2\n20 const 1\n21 fork 1 4\n22 local 0\n23 setlocal 1\n24 join\n25 halt\n",
+        ),
+    ] {
+        let mut store = PlainStore::new(one_file(
+            rt.alloc(),
+            program.as_bytes().to_vec(rt.alloc())?,
+        )?);
         let mut sink = MemSink::new(rt.alloc(), 1000, Vec::new(rt.alloc()))?;
         let got = run_tool(rt.alloc(), &words, &mut store, &mut sink);
         assert_eq!(rt; got, status, "{text}");
@@ -495,6 +575,37 @@ fn programs_are_carried_out(rt: HostRuntime) -> Result<(), Fail> {
             0,
             "3 5\n= end done\n",
         ),
+        // DOALL.
+        (
+            "INTEGER A(4), B(4)\nDOALL I = 1, 4\nA(I) = A(I) + I\nEND DOALL\nDOALL I = 1, 3\nB(I) = A(I + 1)\nEND DOALL\nPRINT *, B(1), B(2), B(3)",
+            "",
+            0,
+            "2 3 4\n= end done\n",
+        ),
+        (
+            "INTEGER A(4)\nI = 8\nJ = 9\nDOALL I = I - 4, J - 8, -1 PRIVATE(J)\nA(I) = J\nJ = I\nEND DOALL\nPRINT *, A(1), A(4), I, J",
+            "",
+            0,
+            "0 0 8 9\n= end done\n",
+        ),
+        (
+            "DOALL I = 1, 1048577\nEND DOALL",
+            "",
+            1,
+            "= end fault trip too large at line 2\n",
+        ),
+        (
+            "DOALL I = 1, 2, 0\nEND DOALL",
+            "",
+            1,
+            "= end fault zero step at line 2\n",
+        ),
+        (
+            "INTEGER A(4)\nPRINT *, 'a'\nDOALL I = 1, 4\nIF (I == 2) A(I + 9) = 1\nIF (I == 4) A(I) = 9223372036854775807 + I\nEND DOALL",
+            "",
+            1,
+            "a\n= end fault subscript at line 5\n",
+        ),
         // Records.
         (
             "READ *, I, J, K\nPRINT *, K, J, I\nREAD *\nREAD *, I\nPRINT *, I",
@@ -619,6 +730,9 @@ fn faults_end_the_call(rt: HostRuntime) -> Result<(), Fail> {
         (CHECK, 1, 0, 1000, 5, ACCEPTED),
         (CHECK, 0, 1, 1000, 6, ACCEPTED),
         (CHECK, 0, 2, 1000, 6, ACCEPTED),
+        (CODE, 1, 0, 1000, 5, LISTED),
+        (CODE, 0, 1, 1000, 6, LISTED),
+        (CODE, 0, 0, 20, 6, LISTED),
         (SEQ, 1, 0, 1000, 5, SIX),
         (SEQ, 3, 0, 1000, 5, SIX),
         (SEQ, 0, 1, 1000, 6, SIX),

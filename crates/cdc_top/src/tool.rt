@@ -1,18 +1,15 @@
 // The top call: one command of a command line.
 ghost use Rattle.std.specs.Prelude.{◌≡◌, ℕ, List, map, string_bytes};
-ghost use Rattle.cdc_top.specs.Answer.{Usage, Check, run_of, check_of, seq_of, command_of, is_name, ToolEnded};
+ghost use Rattle.cdc_top.specs.Answer.{run_of, question_of, ask_of, seq_of, command_of, is_name, ToolEnded};
 ghost use Rattle.cdc_top.specs.Chosen.{chosen};
 ghost use Rattle.cdc_top.specs.Complete.{Completes};
 ghost use Rattle.cdc_top.specs.Laws.{MeansTheSource, HitsGiveMemory};
 
-use crate::check::{check_source, say_refused};
 use crate::run::{run_files, say};
 use crate::seq::seq_files;
-use crate::status::{NO_COMMAND, OUT_OF_MEMORY, READ_FAULT};
-use cdc_base::{ReadRefusal, Sink, Store, read_all};
-use cdc_check::CheckRefusal;
-use cdc_compile::Refusal;
-use cdc_prog::{Kind, limit};
+use crate::source::{Question, ask_file};
+use crate::status::NO_COMMAND;
+use cdc_base::{Sink, Store};
 use std::alloc::Global;
 
 const USAGE: &[u8] =
@@ -31,7 +28,7 @@ struct Names<'a> {
 enum Command<'a> {
     Run(Names<'a>),
     /// The name of the program's file.
-    Check(&'a str),
+    Ask(Question, &'a str),
     /// The names of the program's file and of the input's.
     Seq(&'a str, &'a str),
     Usage,
@@ -61,13 +58,25 @@ fn run_words<'a>(verb: &str, names: Names<'a>) -> Command<'a>
     }
 }
 
-fn check_words<'a>(verb: &str, program: &'a str) -> Command<'a>
-    ensures { chosen result ≡ check_of verb.now program.now }
+// What a word asks of a source.
+fn question_of(verb: &str) -> Option<Question>
+    ensures { result ≡ question_of verb.now }
 {
-    if verb == "check" && names_file(program) {
-        Command::Check(program)
-    } else {
-        Command::Usage
+    if verb == "check" {
+        return Some(Question::Check);
+    }
+    if verb == "code" {
+        return Some(Question::Listing);
+    }
+    None
+}
+
+fn ask_words<'a>(verb: &str, program: &'a str) -> Command<'a>
+    ensures { chosen result ≡ ask_of verb.now program.now }
+{
+    match question_of(verb) {
+        Some(question) if names_file(program) => Command::Ask(question, program),
+        _ => Command::Usage,
     }
 }
 
@@ -86,7 +95,7 @@ fn read_command(words: &[String]) -> Command<'_>
     ensures { chosen result ≡ command_of (map string_bytes words.now) }
 {
     if words.len() == 2 {
-        return check_words(words[0].as_str(), words[1].as_str());
+        return ask_words(words[0].as_str(), words[1].as_str());
     }
     if words.len() == 3 {
         return seq_words(words[0].as_str(), words[1].as_str(), words[2].as_str());
@@ -100,21 +109,6 @@ fn read_command(words: &[String]) -> Command<'_>
         schedule: words[3].as_str(),
     };
     run_words(words[0].as_str(), names)
-}
-
-// Reads the program and checks it.
-fn check_file<S: Store, K: Sink>(alloc: Global, program: &str, store: &mut S, out: &mut K) -> u8
-    ensures { ToolEnded (Check program.now) (S.told store.old) result
-        (K.taken out.old) (K.taken out.new) (S.faults store.old) (S.faults store.new) (K.faults out.old) (K.faults out.new) }
-{
-    match read_all(alloc, store, program, limit(Kind::Source)) {
-        Err(ReadRefusal::Memory) => OUT_OF_MEMORY,
-        Err(ReadRefusal::Failed) => READ_FAULT,
-        Err(ReadRefusal::TooLong) => {
-            say_refused(Refusal::Check(CheckRefusal::TooMany(Kind::Source)), out)
-        }
-        Ok(bytes) => check_source(alloc, &bytes, out),
-    }
 }
 
 // Carries out the command of the words.
@@ -131,7 +125,7 @@ fn carry_out<S: Store, K: Sink>(alloc: Global, words: &[String], store: &mut S, 
             store,
             out,
         ),
-        Command::Check(program) => check_file(alloc, program, store, out),
+        Command::Ask(question, program) => ask_file(alloc, question, program, store, out),
         Command::Seq(program, input) => seq_files(alloc, program, input, store, out),
         Command::Usage => say(out, USAGE, NO_COMMAND),
     }

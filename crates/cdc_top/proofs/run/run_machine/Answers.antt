@@ -17,7 +17,7 @@ play_out-requires-clause-can g c =
     let p = program_of c.args.compiled.program in
     let records = c.in-Ok.machine.records.records in
     let code_is : c.in-Ok.machine.code ≡ compiled_code p = c.in-Ok.ensures.code ∙ c.requires.code in
-    subst (λ (k : Code). CanRun k records) (sym code_is) (can_run c.requires.accepted.0 p c.requires.accepted.1 records)
+    subst (λ (k : Code). CanRun k records) (sym code_is) (can_run c.requires.runnable.0 p c.requires.runnable.1 records)
 
 pub returns-in-Ok-play_out : goal.returns-in-Ok-play_out
 returns-in-Ok-play_out g c =
