@@ -110,13 +110,13 @@ module _ (p : Program) (code : Code) (marks : List Mark) (holds : Holds p code) 
   Done n q f = Does code marks room.Fits n q f
 
   -- at once
-  pub now : {P : ℕ → Frame → Type 0} (m n : ℕ) (f : Frame) → m + 1 ≤ n → room.Fits f → P m f → Reach code marks room.Fits n f P
+  pub now : {P : ℕ → Frame → Type 0} {price : ℕ} (m n : ℕ) (f : Frame) → m + price ≤ n → room.Fits f → P m f → Reach code marks room.Fits price n f P
   now m n f le ok q = record { steps = 0; left = m; within = omega (arith, le); place = f; comes = here f ok; does = q }
 
-  reach_more : {P : ℕ → Frame → Type 0} (m n : ℕ) (f : Frame) → m ≤ n → Reach code marks room.Fits m f P → Reach code marks room.Fits n f P
+  reach_more : {P : ℕ → Frame → Type 0} {price : ℕ} (m n : ℕ) (f : Frame) → m ≤ n → Reach code marks room.Fits price m f P → Reach code marks room.Fits price n f P
   reach_more m n f le r = record { steps = r.steps; left = r.left; within = omega (arith, le, r.within); place = r.place; comes = r.comes; does = r.does }
 
-  reach_after : {P : ℕ → Frame → Type 0} (m n : ℕ) (f g : Frame) → m + 1 ≤ n → room.Fits f → act code f ≡ Goes g → Reach code marks room.Fits m g P → Reach code marks room.Fits n f P
+  reach_after : {P : ℕ → Frame → Type 0} {price : ℕ} (m n : ℕ) (f g : Frame) → m + 1 ≤ n → room.Fits f → act code f ≡ Goes g → Reach code marks room.Fits price m g P → Reach code marks room.Fits price n f P
   reach_after m n f g le ok q r = record { steps = suc r.steps; left = r.left; within = omega (arith, le, r.within); place = r.place; comes = after r.steps f g r.place ok q r.comes; does = r.does }
 
   -- a larger budget
@@ -142,9 +142,9 @@ module _ (p : Program) (code : Code) (marks : List Mark) (holds : Holds p code) 
   goes (Fail kind line) m n f g le ok a d = reach_after m n f g le ok a d
 
   -- one that goes on or faults
-  goes_or_fails : {A : Type 0} (line : ℕ) (got : Got A) (rest : A → Process) (m n : ℕ) (f : Frame) (g : A → Frame) → m + 1 ≤ n → room.Fits f → act code f ≡ or_fault line got (λ a. Goes (g a)) → ((a : A) → Done m (rest a) (g a)) → Done n (or_fail line got rest) f
-  goes_or_fails line (Ok a) rest m n f g le ok q d = goes (rest a) m n f (g a) le ok q (d a)
-  goes_or_fails line (Err kind) rest m n f g le ok q d = now m n f le ok q
+  goes_or_fails : {A : Type 0} (line : ℕ) (got : Got A) (rest : A → Process) (m n : ℕ) (f : Frame) (g : A → Frame) → m + 1 ≤ n → 2 ≤ n → room.Fits f → act code f ≡ or_fault line got (λ a. Goes (g a)) → ((a : A) → Done m (rest a) (g a)) → Done n (or_fail line got rest) f
+  goes_or_fails line (Ok a) rest m n f g le two ok q d = goes (rest a) m n f (g a) le ok q (d a)
+  goes_or_fails line (Err kind) rest m n f g le two ok q d = now 0 n f two ok q
 
   -- what is done at a place is done at an equal one
   at_place : (q : Process) (n pc pc1 : ℕ) (s : List ℤ) (l : Kept) (c : Surroundings) → pc ≡ pc1 → Done n q (stands pc1 s l c) → Done n q (stands pc s l c)
@@ -184,7 +184,7 @@ module _ (p : Program) (code : Code) (marks : List Mark) (holds : Holds p code) 
         let end : k + 1 + 1 ≡ pc + length (cs ++ two) = omega (arith, length-append cs two) in
         let on = λ (i : ℕ). process.Load l.path r.site (base_of (bind l) r.var + i) rest in
         exprs_does subs (dims_of (bind l) r.var) slots line c (λ vs. or_fail line (element (dims_of (bind l) r.var) vs) on) (n + 8) pc s l kf (room.lower (length s) ok.1) ok.0 (subs_fit l r subs slots fits) (has_front code.steps pc cs two has) (λ vs q high.
-        goes_or_fails line (element (dims_of (bind l) r.var) vs) on (n + 7) (n + 8) (stands k (onto vs s) l c) (λ i. stands (k + 1) (pos i ∷ s) l c) (omega arith) (kf k (onto vs s) c high) (index_row r.var line k vs s l c q there.0) (λ i.
+        goes_or_fails line (element (dims_of (bind l) r.var) vs) on (n + 7) (n + 8) (stands k (onto vs s) l c) (λ i. stands (k + 1) (pos i ∷ s) l c) (omega arith) (omega arith) (kf k (onto vs s) c high) (index_row r.var line k vs s l c q there.0) (λ i.
         now (n + 6) (n + 7) _ (omega arith) (kf (k + 1) (pos i ∷ s) c ok.1) (_, at (k + 1) (pos i ∷ s) l c _ there.1.0, λ v. at_place (rest v) (n + 6) _ _ (v ∷ s) l c end (go v))))
     expr_does (Un op e) slots line c rest n pc s l kf ok fits has go =
         let ce = expr_code marks line e in
@@ -192,7 +192,7 @@ module _ (p : Program) (code : Code) (marks : List Mark) (holds : Holds p code) 
         let k = pc + length ce in
         let end : k + 1 ≡ pc + length (ce ++ one) = omega (arith, length-append ce one) in
         expr_does e slots line c (λ x. or_fail line (unary op x) rest) (n + 8) pc s l kf ok fits (has_front code.steps pc ce one has) (λ x.
-        goes_or_fails line (unary op x) rest (n + 6) (n + 8 + 6) (stands k (x ∷ s) l c) (λ v. stands (k + 1) (v ∷ s) l c) (omega arith) (kf k (x ∷ s) c (above e (length s) ok)) (at k (x ∷ s) l c _ (has_back code.steps pc ce one has).0 ∙ unary_row code (bind l) op line k (x ∷ s) l c) (λ v.
+        goes_or_fails line (unary op x) rest (n + 6) (n + 8 + 6) (stands k (x ∷ s) l c) (λ v. stands (k + 1) (v ∷ s) l c) (omega arith) (omega arith) (kf k (x ∷ s) c (above e (length s) ok)) (at k (x ∷ s) l c _ (has_back code.steps pc ce one has).0 ∙ unary_row code (bind l) op line k (x ∷ s) l c) (λ v.
         at_place (rest v) (n + 6) _ _ (v ∷ s) l c end (go v)))
     expr_does (Bin op e f) slots line c rest n pc s l kf ok fits has go =
         let ce = expr_code marks line e in
@@ -204,7 +204,7 @@ module _ (p : Program) (code : Code) (marks : List Mark) (holds : Holds p code) 
         let end : k + 1 ≡ pc + length (ce ++ (cf ++ one)) = omega (arith, length-append ce (cf ++ one), length-append cf one) in
         expr_does e slots line c (λ x. expr (bind l) line f c (λ y. or_fail line (binary op x y) rest)) (n + 8) pc s l kf ok.0 fits.0 (has_front code.steps pc ce _ has) (λ x.
         expr_does f slots line c (λ y. or_fail line (binary op x y) rest) (n + 8 + 6) j (x ∷ s) l kf ok.1 fits.1 (has_front code.steps j cf one has_f) (λ y.
-        goes_or_fails line (binary op x y) rest (n + 6) (n + 8 + 6 + 6) (stands k (y ∷ x ∷ s) l c) (λ v. stands (k + 1) (v ∷ s) l c) (omega arith) (kf k (y ∷ x ∷ s) c (above f (suc (length s)) ok.1)) (at k (y ∷ x ∷ s) l c _ (has_back code.steps j cf one has_f).0 ∙ binary_row code (bind l) op line k (y ∷ x ∷ s) l c) (λ v.
+        goes_or_fails line (binary op x y) rest (n + 6) (n + 8 + 6 + 6) (stands k (y ∷ x ∷ s) l c) (λ v. stands (k + 1) (v ∷ s) l c) (omega arith) (omega arith) (kf k (y ∷ x ∷ s) c (above f (suc (length s)) ok.1)) (at k (y ∷ x ∷ s) l c _ (has_back code.steps j cf one has_f).0 ∙ binary_row code (bind l) op line k (y ∷ x ∷ s) l c) (λ v.
         at_place (rest v) (n + 6) _ _ (v ∷ s) l c end (go v))))
 
     exprs_does : (es : Exprs) (ds : List Dim) (slots line : ℕ) (c : Surroundings) (rest : List ℤ → Process) (n pc : ℕ) (s : List ℤ) (l : Kept) → KeptFits l → room.stack (length s) → HasEs (length s) es → SubsFit p.objects (shapes l) slots ds es → HasAt code.steps pc (exprs_code marks line es) → ((vs : List ℤ) → length vs ≡ length ds → room.stack (length (onto vs s)) → Done n (rest vs) (stands (pc + length (exprs_code marks line es)) (onto vs s) l c)) → Done n (exprs (bind l) line es c rest) (stands pc s l c)
@@ -247,19 +247,19 @@ module _ (p : Program) (code : Code) (marks : List Mark) (holds : Holds p code) 
   over_room Empty over e = subst room.stack (sym e) bare
   over_room (More _ _) over e = subst room.stack (sym e) single
 
-  located_does : (r : Ref) (subs : Exprs) (slots line : ℕ) (c : Surroundings) (rest : Cell → Process) (m n pc : ℕ) (l : Kept) → KeptFits l → HasEs 0 subs → m + 1 ≤ n → SpotFits p.objects (shapes l) slots r.var subs → HasAt code.steps pc (located_code marks line r subs) → ((cell : Cell) (over : List ℤ) → Lies subs over → Stores l line (store_instr r subs) cell over → Done m (rest cell) (stands (pc + length (located_code marks line r subs)) over l c)) → Done n (located (bind l) line r subs c rest) (stands pc [] l c)
-  located_does r Empty slots line c rest m n pc l kf ok le fits has go =
+  located_does : (r : Ref) (subs : Exprs) (slots line : ℕ) (c : Surroundings) (rest : Cell → Process) (m n pc : ℕ) (l : Kept) → KeptFits l → HasEs 0 subs → m + 1 ≤ n → 2 ≤ n → SpotFits p.objects (shapes l) slots r.var subs → HasAt code.steps pc (located_code marks line r subs) → ((cell : Cell) (over : List ℤ) → Lies subs over → Stores l line (store_instr r subs) cell over → Done m (rest cell) (stands (pc + length (located_code marks line r subs)) over l c)) → Done n (located (bind l) line r subs c rest) (stands pc [] l c)
+  located_does r Empty slots line c rest m n pc l kf ok le two fits has go =
       let cell = scalar_of (bind l) r.site r.var in
       more (rest cell) m n (stands pc [] l c) (omega (arith, le))
       (at_place (rest cell) m _ _ [] l c (omega arith) (go cell [] refl (λ x d rest m n pc le h o. keep_does r.var r.site line x d rest m n pc [] l le (kf pc (x ∷ []) d single) h o)))
-  located_does r (More e es) slots line c rest m n pc l kf ok le fits has go =
+  located_does r (More e es) slots line c rest m n pc l kf ok le two fits has go =
       let cs = exprs_code marks line (More e es) in
       let here_index = at_line line (Index r.var) ∷ [] in
       let k = pc + length cs in
       let end : k + 1 ≡ pc + length (cs ++ here_index) = omega (arith, length-append cs here_index) in
       let cell = λ (i : ℕ). InWord l.path r.site (base_of (bind l) r.var + i) in
       exprs_does (More e es) (dims_of (bind l) r.var) slots line c (λ vs. or_fail line (element (dims_of (bind l) r.var) vs) (λ i. rest (cell i))) n pc [] l kf bare ok fits.1 (has_front code.steps pc cs here_index has) (λ vs q high.
-      goes_or_fails line (element (dims_of (bind l) r.var) vs) (λ i. rest (cell i)) m n (stands k (onto vs []) l c) (λ i. stands (k + 1) (pos i ∷ []) l c) le (kf k (onto vs []) c high) (index_row r.var line k vs [] l c q (has_back code.steps pc cs here_index has).0) (λ i.
+      goes_or_fails line (element (dims_of (bind l) r.var) vs) (λ i. rest (cell i)) m n (stands k (onto vs []) l c) (λ i. stands (k + 1) (pos i ∷ []) l c) le two (kf k (onto vs []) c high) (index_row r.var line k vs [] l c q (has_back code.steps pc cs here_index has).0) (λ i.
       at_place (rest (cell i)) m _ _ (pos i ∷ []) l c end (go (cell i) (pos i ∷ []) refl (λ x d rest m n pc le h o. now m n _ le (kf pc (x ∷ pos i ∷ []) d room.two) (_, at pc (x ∷ pos i ∷ []) l d _ h, o d)))))
 
   -- ---- actuals
@@ -347,7 +347,7 @@ module _ (p : Program) (code : Code) (marks : List Mark) (holds : Holds p code) 
         let k = j + length cv in
         let has_v = has_back code.steps pc ct (cv ++ one) has in
         let end : k + 1 ≡ pc + length (ct ++ (cv ++ one)) = omega (arith, length-append ct (cv ++ one), length-append cv one) in
-        located_does t.at t.subs slots line c (λ cell. expr mine line value c (λ v. keep cell v c rest)) (n + 7) (n + 8) pc (kept l) kf ok_subs (omega arith) ft (has_front code.steps pc ct (cv ++ one) has) (λ cell over lies stores.
+        located_does t.at t.subs slots line c (λ cell. expr mine line value c (λ v. keep cell v c rest)) (n + 7) (n + 8) pc (kept l) kf ok_subs (omega arith) (omega arith) ft (has_front code.steps pc ct (cv ++ one) has) (λ cell over lies stores.
         expr_does value slots line c (λ v. keep cell v c rest) (n + 7) j over (kept l) kf (value_room t.subs value over lies ok_value) fv (has_front code.steps j cv one has_v) (λ v.
         stores v c rest n (n + 7 + 6) k (omega arith) (has_back code.steps j cv one has_v).0 (λ d. place_in (rest d) n _ _ [] l d end (go d))))
 
@@ -412,18 +412,18 @@ module _ (p : Program) (code : Code) (marks : List Mark) (holds : Holds p code) 
         goes (body c (λ d. raised d on)) (n + 7) (n + 8) (standing pc [] (nested (suc t, by) l) c) (standing (pc + 1) [] l' c) (omega arith) (kf_before pc [] c bare) (at_in pc [] (nested (suc t, by) l) c _ has.0)
         (fb c (λ d. raised d on) (n + 7) l' ins' (λ d.
         fetch_does again.var again.site line d (λ x. or_fail line (binary bin.Add x by) (λ y. keep (scalar mine bump) y d on)) (n + 6) (n + 7) k [] (kept l') (omega arith) (kf k [] d bare) there.0 (λ x.
-        goes_or_fails line (binary bin.Add x by) (λ y. keep (scalar mine bump) y d on) (n + 5) (n + 6) (standing (k + 1) (x ∷ []) l' d) (λ y. standing (k + 1 + 1) (y ∷ []) l' d) (omega arith) (kf (k + 1) (x ∷ []) d single) (at_in (k + 1) (x ∷ []) l' d _ there.1.0) (λ y.
+        goes_or_fails line (binary bin.Add x by) (λ y. keep (scalar mine bump) y d on) (n + 5) (n + 6) (standing (k + 1) (x ∷ []) l' d) (λ y. standing (k + 1 + 1) (y ∷ []) l' d) (omega arith) (omega arith) (kf (k + 1) (x ∷ []) d single) (at_in (k + 1) (x ∷ []) l' d _ there.1.0) (λ y.
         keep_does bump.var bump.site line y d on (n + 4) (n + 5) (k + 1 + 1) [] (kept l') (omega arith) (kf (k + 1 + 1) (y ∷ []) d single) there.1.1.0 (λ e.
         goes (on e) n (n + 4) (standing (k + 1 + 1 + 1) [] l' e) _ (omega arith) (kf (k + 1 + 1 + 1) [] e bare) (at_in (k + 1 + 1 + 1) [] l' e _ there.1.1.1.0)
         (place_in (on e) n _ _ [] l' e back (turns_do t line pc rank opened again bump by body cb has fb ok e rest n l ins go)))))))
 
-    forks_few : (line number : ℕ) (got : Got ℕ) (from by : ℤ) (body : ℕ → Process) (next : Process) (m n : ℕ) (f : Frame) (e : ℕ → Frame) (h : Frame) → m + 1 ≤ n → room.Fits f → act code f ≡ or_fault line got (λ count. Forks path number count from by e h) → ((i : ℕ) → Done 0 (body i) (e i)) → Done m next h → Done n (or_fail line got (λ count. process.Fork path number count from by body next)) f
+    forks_few : (line number : ℕ) (got : Got ℕ) (from by : ℤ) (body : ℕ → Process) (next : Process) (m n : ℕ) (f : Frame) (e : ℕ → Frame) (h : Frame) → m + 4 ≤ n → room.Fits f → act code f ≡ or_fault line got (λ count. Forks path number count from by e h) → ((i : ℕ) → Done 0 (body i) (e i)) → Done m next h → Done n (or_fail line got (λ count. process.Fork path number count from by body next)) f
     forks_few line number (Ok count) from by body next m n f e h le ok q db dn = now m n f le ok (e, h, q, db, dn)
-    forks_few line number (Err kind) from by body next m n f e h le ok q db dn = now m n f le ok q
+    forks_few line number (Err kind) from by body next m n f e h le ok q db dn = now m n f (omega (arith, le)) ok q
 
-    forks : (line number : ℕ) (got : Got ℕ) (from by : ℤ) (body : ℕ → Process) (next : Process) (m n : ℕ) (f : Frame) (e : ℕ → Frame) (h : Frame) → m + 1 ≤ n → room.Fits f → act code f ≡ or_fault line got (λ t. or_fault line (few t) (λ count. Forks path number count from by e h)) → ((i : ℕ) → Done 0 (body i) (e i)) → Done m next h → Done n (or_fail line got (λ t. or_fail line (few t) (λ count. process.Fork path number count from by body next))) f
+    forks : (line number : ℕ) (got : Got ℕ) (from by : ℤ) (body : ℕ → Process) (next : Process) (m n : ℕ) (f : Frame) (e : ℕ → Frame) (h : Frame) → m + 4 ≤ n → room.Fits f → act code f ≡ or_fault line got (λ t. or_fault line (few t) (λ count. Forks path number count from by e h)) → ((i : ℕ) → Done 0 (body i) (e i)) → Done m next h → Done n (or_fail line got (λ t. or_fail line (few t) (λ count. process.Fork path number count from by body next))) f
     forks line number (Ok t) from by body next m n f e h le ok q db dn = forks_few line number (few t) from by body next m n f e h le ok q db dn
-    forks line number (Err kind) from by body next m n f e h le ok q db dn = now m n f le ok q
+    forks line number (Err kind) from by body next m n f e h le ok q db dn = now m n f (omega (arith, le)) ok q
 
     -- ---- output and input
     gap_does : (first : Bool) (line : ℕ) (is : List Step) (rest : Process) (m n pc : ℕ) (s : List ℤ) (l : Within) (c : Surroundings) → m + 1 ≤ n → room.Fits (standing pc s l c) → HasAt code.steps pc (with_gap marks first line is) → ((k : ℕ) → k + length is ≡ pc + length (with_gap marks first line is) → HasAt code.steps k is → Done m rest (standing k s l c)) → Done n (gap first rest) (standing pc s l c)
@@ -456,10 +456,10 @@ module _ (p : Program) (code : Code) (marks : List Mark) (holds : Holds p code) 
         let end : k + 1 + length cm ≡ pc + length (cv ++ tail) = omega (arith, q, length-append cv tail) in
         now (n + 1) (n + 6) _ (omega arith) (kf k (v ∷ []) c single) (_, at_in k (v ∷ []) l c _ has'.0, items_do more_items false slots texts line c rest n (k + 1) l kf ok_on fits_on has'.1 (place_in rest n _ _ [] l c end go))))
 
-    reads_do : (targets : List Target) (slots line : ℕ) (c : Surroundings) (rest : Surroundings → Process) (n pc : ℕ) (l : Within) → KeptFits (kept l) → All (λ t. HasEs 0 t.subs) targets → All (TargetFits p.objects unit_shapes slots) targets → HasAt code.steps pc (reads_code marks line targets) → ((d : Surroundings) → Done n (rest d) (standing (pc + length (reads_code marks line targets)) [] l d)) → Done (n + 1) (reads mine line targets c rest) (standing pc [] l c)
+    reads_do : (targets : List Target) (slots line : ℕ) (c : Surroundings) (rest : Surroundings → Process) (n pc : ℕ) (l : Within) → KeptFits (kept l) → All (λ t. HasEs 0 t.subs) targets → All (TargetFits p.objects unit_shapes slots) targets → HasAt code.steps pc (reads_code marks line targets) → ((d : Surroundings) → Done n (rest d) (standing (pc + length (reads_code marks line targets)) [] l d)) → Done (n + 2) (reads mine line targets c rest) (standing pc [] l c)
     reads_do [] slots line c rest n pc l kf ok fits has go =
         let left_with = λ (left : Input). let d : Surroundings = record { slots = c.slots; input = left } in d in
-        goes_or_fails line (end_record c.input) (λ left. rest (left_with left)) n (n + 1) (standing pc [] l c) (λ left. standing (pc + 1) [] l (left_with left)) (omega arith) (kf pc [] c bare) (at_in pc [] l c _ has.0) (λ left. go (left_with left))
+        goes_or_fails line (end_record c.input) (λ left. rest (left_with left)) n (n + 2) (standing pc [] l c) (λ left. standing (pc + 1) [] l (left_with left)) (omega arith) (omega arith) (kf pc [] c bare) (at_in pc [] l c _ has.0) (λ left. go (left_with left))
     reads_do (t ∷ ts) slots line c rest n pc l kf ok fits has go =
         let ok_first = All-head (λ (t : Target). HasEs 0 t.subs) t ts ok in
         let ok_on = All-tail (λ (t : Target). HasEs 0 t.subs) t ts ok in
@@ -472,9 +472,9 @@ module _ (p : Program) (code : Code) (marks : List Mark) (holds : Holds p code) 
         let end : k + 1 + 1 + length (reads_code marks line ts) ≡ pc + length (ct ++ tail) = omega (arith, length-append ct tail) in
         let left_with = λ (left : Input). let d : Surroundings = record { slots = c.slots; input = left } in d in
         let on = λ (d : Surroundings). reads mine line ts d rest in
-        located_does t.at t.subs slots line c (λ cell. or_fail line (take c.input) (λ got. keep cell got.0 (left_with got.1) on)) (n + 8) (n + 1 + 8) pc (kept l) kf ok_first (omega arith) fits_first (has_front code.steps pc ct tail has) (λ cell over lies stores.
-        goes_or_fails line (take c.input) (λ got. keep cell got.0 (left_with got.1) on) (n + 7) (n + 8) (standing k over l c) (λ got. standing (k + 1) (got.0 ∷ over) l (left_with got.1)) (omega arith) (kf k over c (over_room t.subs over lies)) (at_in k over l c _ there.0) (λ got.
-        stores got.0 (left_with got.1) on (n + 1) (n + 7) (k + 1) (omega arith) there.1.0 (λ d.
+        located_does t.at t.subs slots line c (λ cell. or_fail line (take c.input) (λ got. keep cell got.0 (left_with got.1) on)) (n + 8) (n + 2 + 8) pc (kept l) kf ok_first (omega arith) (omega arith) fits_first (has_front code.steps pc ct tail has) (λ cell over lies stores.
+        goes_or_fails line (take c.input) (λ got. keep cell got.0 (left_with got.1) on) (n + 7) (n + 8) (standing k over l c) (λ got. standing (k + 1) (got.0 ∷ over) l (left_with got.1)) (omega arith) (omega arith) (kf k over c (over_room t.subs over lies)) (at_in k over l c _ there.0) (λ got.
+        stores got.0 (left_with got.1) on (n + 2) (n + 7) (k + 1) (omega arith) there.1.0 (λ d.
         reads_do ts slots line d rest n (k + 1 + 1) l kf ok_on fits_on there.1.1 (λ e. place_in (rest e) n _ _ [] l e end (go e)))))
 
     -- ---- statements
@@ -529,7 +529,7 @@ module _ (p : Program) (code : Code) (marks : List Mark) (holds : Holds p code) 
         let raised = λ (m3 : ℤ). raise mine k.line again bump m3 in
         let on = λ (m1 m3 : ℤ) (t : ℕ). keep (scalar mine first) m1 c (λ d. turns t (stmt calls mine body) (raised m3) d rest) in
         controls_do k slots c on (n + 8) pc l kf ok.0 fits.0 (has_front code.steps pc cc' tail has) (λ m1 m2 m3.
-        goes_or_fails k.line (trips m1 m2 m3) (λ t. on m1 m3 t) (n + 7) (n + 8) (standing j (m3 ∷ m2 ∷ m1 ∷ []) l c) (λ t. standing (j + 1) (m1 ∷ []) (nested (t, m3) l) c) (omega arith) (kf j (m3 ∷ m2 ∷ m1 ∷ []) c (above k.by 2 ok.0.2)) (at_in j (m3 ∷ m2 ∷ m1 ∷ []) l c _ there.0) (λ t.
+        goes_or_fails k.line (trips m1 m2 m3) (λ t. on m1 m3 t) (n + 7) (n + 8) (standing j (m3 ∷ m2 ∷ m1 ∷ []) l c) (λ t. standing (j + 1) (m1 ∷ []) (nested (t, m3) l) c) (omega arith) (omega arith) (kf j (m3 ∷ m2 ∷ m1 ∷ []) c (above k.by 2 ok.0.2)) (at_in j (m3 ∷ m2 ∷ m1 ∷ []) l c _ there.0) (λ t.
         keep_does first.var first.site k.line m1 c (λ d. turns t (stmt calls mine body) (raised m3) d rest) n (n + 7) (j + 1) [] (kept (nested (t, m3) l)) (omega arith) (inside_fits rank (suc opened) (nested (t, m3) l) (room.inner rank opened (t, m3) l ok.1 ins) [] room.no_args (j + 1) (m1 ∷ []) c single) there.1.0 (λ d.
         turns_do t k.line (j + 1 + 1) rank opened again bump m3 (stmt calls mine body) cb there.1.1 body_does ok.1 d rest n l ins (λ e. place_in (rest e) n _ _ [] l e end (go e)))))
     stmt_does (Doall k number own body) calls ranks rank slots opened pc does ok fits has order c rest n l ins go =
@@ -565,7 +565,7 @@ module _ (p : Program) (code : Code) (marks : List Mark) (holds : Holds p code) 
     stmt_does (Print line shown) calls ranks rank slots opened pc does ok fits has order c rest n l ins go =
         more (items mine line true shown c (rest c)) (n + 1) (n + 8) (standing pc [] l c) (omega arith) (items_do shown true slots (length p.texts) line c (rest c) n pc l (inside_fits rank opened l ins [] room.no_args) ok fits has (go c))
     stmt_does (Read line targets) calls ranks rank slots opened pc does ok fits has order c rest n l ins go =
-        more (reads mine line targets c rest) (n + 1) (n + 8) (standing pc [] l c) (omega arith) (reads_do targets slots line c rest n pc l (inside_fits rank opened l ins [] room.no_args) ok fits has go)
+        more (reads mine line targets c rest) (n + 2) (n + 8) (standing pc [] l c) (omega arith) (reads_do targets slots line c rest n pc l (inside_fits rank opened l ins [] room.no_args) ok fits has go)
 
   -- ---- units
   -- a called unit ranks below the main unit, so it is another one, and its code ends in a return

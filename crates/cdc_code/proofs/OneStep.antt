@@ -82,17 +82,17 @@ module _ (code : Code) (marks : List Mark) (Fits : Frame → Type 0) (Keeps : Pr
   ticked b next s Stuck k = k
 
   -- at a reach: a quiet instruction of it, or the act of the process
-  reached : (b : ℕ) (p : Process) (f : Frame) (s : Store) (P : ℕ → Frame → Type 0) → Reach code marks Fits b f P
-      → ((n : ℕ) (g : Frame) → Reach code marks Fits n g P → Does code marks Fits n p g)
+  reached : (price b : ℕ) (p : Process) (f : Frame) (s : Store) (P : ℕ → Frame → Type 0) → 1 ≤ price → Reach code marks Fits price b f P
+      → ((n : ℕ) (g : Frame) → Reach code marks Fits price n g P → Does code marks Fits n p g)
       → ((m : ℕ) → m < b → P m f → SteppedWith b p s (act code f))
       → StepsWith b p f s
-  reached b p f s P r again own = go r.steps r.place r.comes r.within r.does
+  reached price b p f s P some r again own = go r.steps r.place r.comes r.within r.does
     where
-      go : (k : ℕ) (place : Frame) → Comes code marks Fits k f place → k + 1 + r.left ≤ b → P r.left place → StepsWith b p f s
-      go k place (here _ ok) le h = record { fits = ok; stepped = own r.left (omega (arith, le)) h }
+      go : (k : ℕ) (place : Frame) → Comes code marks Fits k f place → k + price + r.left ≤ b → P r.left place → StepsWith b p f s
+      go k place (here _ ok) le h = record { fits = ok; stepped = own r.left (omega (arith, some, le)) h }
       go k place (after n _ g _ ok q rest) le h =
-          let remaining : Reach code marks Fits (n + 1 + r.left) g P = record { steps = n; left = r.left; within = omega arith; place = place; comes = rest; does = h } in
-          let still : StillWith b p s [] g s = record { rest = n + 1 + r.left; process = p; does = again (n + 1 + r.left) g remaining; leads = record { said = refl; left = refl; ending = refl }; fewer = omega (arith, le); kept = λ k. k } in
+          let remaining : Reach code marks Fits price (n + price + r.left) g P = record { steps = n; left = r.left; within = omega arith; place = place; comes = rest; does = h } in
+          let still : StillWith b p s [] g s = record { rest = n + price + r.left; process = p; does = again (n + price + r.left) g remaining; leads = record { said = refl; left = refl; ending = refl }; fewer = omega (arith, le); kept = λ k. k } in
           record { fits = ok; stepped = subst (SteppedWith b p s) (sym q) still }
 
   pub one_step_with : (b : ℕ) (p : Process) (f : Frame) (s : Store) → Does code marks Fits b p f → StepsWith b p f s
@@ -100,27 +100,27 @@ module _ (code : Code) (marks : List Mark) (Fits : Frame → Type 0) (Keeps : Pr
       let h = one_step_with (b + 8) next f s d in
       record { fits = h.fits; stepped = ticked b next s (act code f) h.stepped }
   one_step_with b (Load path site word next) f s d =
-      reached b (Load path site word next) f s _ d (λ n g r. r) (λ m lt h.
+      reached 1 b (Load path site word next) f s _ (omega arith) d (λ n g r. r) (λ m lt h.
       let still : StillWith b (Load path site word next) s [] (h.0 (s word)) s = record { rest = m; process = next (s word); does = h.2 (s word); leads = record { said = refl; left = refl; ending = refl }; fewer = omega (arith, lt); kept = λ k. goes.load path site word next k (s word) } in
       subst (SteppedWith b (Load path site word next) s) (sym h.1) still)
   one_step_with b (Save path site word v next) f s d =
-      reached b (Save path site word v next) f s _ d (λ n g r. r) (λ m lt h.
+      reached 1 b (Save path site word v next) f s _ (omega arith) d (λ n g r. r) (λ m lt h.
       let still : StillWith b (Save path site word v next) s [] h.0 (put s word v) = record { rest = m; process = next; does = h.2; leads = record { said = refl; left = refl; ending = refl }; fewer = omega (arith, lt); kept = λ k. goes.save path site word v next k } in
       subst (SteppedWith b (Save path site word v next) s) (sym h.1) still)
   one_step_with b (Say piece next) f s d =
-      reached b (Say piece next) f s _ d (λ n g r. r) (λ m lt h.
+      reached 1 b (Say piece next) f s _ (omega arith) d (λ n g r. r) (λ m lt h.
       let still : StillWith b (Say piece next) s (piece ∷ []) h.0 s = record { rest = m; process = next; does = h.2; leads = record { said = refl; left = refl; ending = refl }; fewer = omega (arith, lt); kept = goes.say piece next } in
       subst (SteppedWith b (Say piece next) s) (sym h.1) still)
   one_step_with b (Fork path number count from by body next) f s d =
-      reached b (Fork path number count from by body next) f s _ d (λ n g r. r) (λ m lt h.
+      reached 4 b (Fork path number count from by body next) f s _ (omega arith) d (λ n g r. r) (λ m lt h.
       let over : IsAtEnd (Fork path number count from by body next) s (Fork path number count from by body next) = record { said = refl; left = refl; ending = refl } in
       subst (SteppedWith b (Fork path number count from by body next) s) (sym h.2) (body, next, m, over, h.3, h.4, omega (arith, lt)))
   one_step_with b Join f s d =
-      reached b Join f s _ d (λ n g r. r) (λ m lt h. let over : IsAtEnd Join s Join = record { said = refl; left = refl; ending = refl } in subst (SteppedWith b Join s) (sym h) over)
+      reached 2 b Join f s _ (omega arith) d (λ n g r. r) (λ m lt h. let over : IsAtEnd Join s Join = record { said = refl; left = refl; ending = refl } in subst (SteppedWith b Join s) (sym h) over)
   one_step_with b Halt f s d =
-      reached b Halt f s _ d (λ n g r. r) (λ m lt h. let over : IsAtEnd Halt s Halt = record { said = refl; left = refl; ending = refl } in subst (SteppedWith b Halt s) (sym h) over)
+      reached 2 b Halt f s _ (omega arith) d (λ n g r. r) (λ m lt h. let over : IsAtEnd Halt s Halt = record { said = refl; left = refl; ending = refl } in subst (SteppedWith b Halt s) (sym h) over)
   one_step_with b (Fail kind line) f s d =
-      reached b (Fail kind line) f s _ d (λ n g r. r) (λ m lt h.
+      reached 2 b (Fail kind line) f s _ (omega arith) d (λ n g r. r) (λ m lt h.
       let over : IsAtEnd (Fail kind line) s (Fail kind line) = record { said = refl; left = refl; ending = refl } in subst (SteppedWith b (Fail kind line) s) (sym h) over)
 
 -- the same, where nothing is kept

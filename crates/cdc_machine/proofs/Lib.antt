@@ -1,8 +1,10 @@
 pub mod Updates
+pub mod Sums
 pub mod InOrder
 pub mod Enabled
 pub mod Steps
 pub mod Stands
 pub mod Ways
 pub mod Joining
+pub mod InTurn
 pub mod OnCode

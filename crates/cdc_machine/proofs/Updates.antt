@@ -21,10 +21,10 @@ everywhere P f i a here there j = go (j == i) refl
     go true e = subst (λ k. P k a) (sym (eqb-true j i e)) here
     go false e = there j (λ q. let both = sym (eq-eqb j i q) ∙ e in cc)
 
--- the same of two functions
-pub everywhere_both : {A B : Type 0} (P : ℕ → A → B → Type 0) (f : ℕ → A) (g : ℕ → B) (i : ℕ) (a : A) (b : B) → P i a b → ((j : ℕ) → j ≢ i → P j (f j) (g j)) → (j : ℕ) → P j (with_at f i a j) (with_at g i b j)
-everywhere_both P f g i a b here there j = go (j == i) refl
+-- the same of three functions
+pub everywhere_in_three : {A B C : Type 0} (P : ℕ → A → B → C → Type 0) (f : ℕ → A) (g : ℕ → B) (h : ℕ → C) (i : ℕ) (a : A) (b : B) (c : C) → P i a b c → ((j : ℕ) → j ≢ i → P j (f j) (g j) (h j)) → (j : ℕ) → P j (with_at f i a j) (with_at g i b j) (with_at h i c j)
+everywhere_in_three P f g h i a b c here there j = go (j == i) refl
   where
-    go : (t : Bool) → (j == i) ≡ t → P j (if t then a else f j) (if t then b else g j)
-    go true e = subst (λ k. P k a b) (sym (eqb-true j i e)) here
+    go : (t : Bool) → (j == i) ≡ t → P j (if t then a else f j) (if t then b else g j) (if t then c else h j)
+    go true e = subst (λ k. P k a b c) (sym (eqb-true j i e)) here
     go false e = there j (λ q. let both = sym (eq-eqb j i q) ∙ e in cc)

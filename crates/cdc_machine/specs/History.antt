@@ -1,11 +1,11 @@
 -- The machine whose loads give the last stored values: where it stands after a list of events, the calls that it has made on memory, and what its tasks have done in the present epoch.
-use Rattle.std.specs.Prelude.{ℕ, ℤ, pos, List, [], ◌∷◌, ◌++◌, Option, Some, None}
+use Rattle.std.specs.Prelude.{ℕ, suc, ℤ, pos, List, [], ◌∷◌, ◌++◌, Option, Some, None}
 use Rattle.cdc_prog.specs.Data.{Store}
 use Rattle.cdc_prog.specs.Alone.{Access, Read, Write}
 use Rattle.cdc_code.specs.Act.{Act, Reads, Writes}
 use Rattle.cdc_fabric.specs.Calls.{Call, Load, last_store}
 use Rattle.cdc_sched.specs.declared.event.Event.{Event}
-use Rattle.cdc_machine.specs.Machine.{TaskOf, Waiting, Running, Ended, StateOf, DeedOf, Acts, Closes, with_at, deed, call, done, begun}
+use Rattle.cdc_machine.specs.Machine.{TaskOf, Waiting, Running, Ended, StateOf, DeedOf, Rests, Acts, Closes, Drops, with_at, deed, call, done, begun}
 
 -- what a word has, by the calls so far
 abbrev pub memory : List Call → Store
@@ -16,9 +16,9 @@ abbrev pub given : Option Call → List Call → ℤ
 given (Some (Load p word mark)) calls = last_store word calls
 given c calls = pos 0
 
-abbrev pub noted : Option Call → List Call → List Call
-noted None calls = calls
-noted (Some c) calls = c ∷ calls
+abbrev pub noted : {A : Type 0} → Option A → List A → List A
+noted None l = l
+noted (Some a) l = a ∷ l
 
 -- where the tasks of the present epoch began, the calls before it, and the accesses that each has made, in order
 pub record EpochOf (T : Type 0) : Type 0 where
@@ -49,6 +49,12 @@ access_by v (Reads path site mark word next) = Read path site word v ∷ []
 access_by v (Writes path site word value next) = Write path site word value ∷ []
 access_by v a = []
 
+-- a deed counts, other than a rest and a drop
+abbrev pub counted : {T : Type 0} → DeedOf T → ℕ → ℕ
+counted Rests n = n
+counted (Drops p line) n = n
+counted d n = suc n
+
 module _ {T : Type 0} (look : T → Act T) (entry exit : (number : ℕ) → List ℕ) where
   -- the epoch after a deed that made this call and gave v, and led to a state with these calls
   abbrev pub epoch_after : (v : ℤ) → DeedOf T → Option Call → StateOf T → List Call → EpochOf T → EpochOf T
@@ -70,3 +76,8 @@ module _ {T : Type 0} (look : T → Act T) (entry exit : (number : ℕ) → List
   abbrev pub after : T → List Event → HistoryOf T
   after main [] = record { machine = begun main; calls = []; epoch = epoch_of (begun main) [] }
   after main (e ∷ events) = on e (after main events)
+
+  -- how many of these events were enabled, other than drops
+  abbrev pub spent : T → List Event → ℕ
+  spent main [] = 0
+  spent main (e ∷ events) = counted (deed e (after main events).machine) (spent main events)

@@ -65,7 +65,7 @@ module _ (code : Code) (named : NamesWithin code) (objects : All (λ o. IsArray 
     comes k f g (here _ ok) fit = here f (goes f fit)
     comes k f h (after n _ g _ ok q rest) fit = after n f g h (goes f (subst (IsFit code.words) (sym q) (at_first n g h rest))) q (comes n g h rest fit)
 
-    reach : (n : ℕ) (f : Frame) (P R : ℕ → Frame → Type 0) → ((m : ℕ) (g : Frame) → P m g → R m g × IsFit code.words (act code g)) → Reach code marks IsWithin n f P → Reach code marks (GoesOn code) n f R
+    reach : {price : ℕ} (n : ℕ) (f : Frame) (P R : ℕ → Frame → Type 0) → ((m : ℕ) (g : Frame) → P m g → R m g × IsFit code.words (act code g)) → Reach code marks IsWithin price n f P → Reach code marks (GoesOn code) price n f R
     reach n f P R step r =
         let h = step r.left r.place r.does in
         record { steps = r.steps; left = r.left; within = r.within; place = r.place; comes = comes r.steps f r.place r.comes h.1; does = h.0 }
