@@ -25,7 +25,7 @@ use Rattle.cdc_compile.specs.declared.refusal.Refusal.{Refusal}
 use Rattle.cdc_compile.specs.declared.refusal.Refusal.TheVariants.{Lex, Parse, Check, Conflict, Memory}
 use Rattle.cdc_compile.specs.Unbuilt.{IsLeastUnbuilt}
 use Rattle.cdc_compile.specs.Source.{HasLines, HasStatements, HasUnits, HasBuiltUnits, IsLexRefused, IsParseRefused, IsCheckRefused, IsProgramOf}
-use Rattle.cdc_compile.specs.Conflicts.{conflict_in}
+use Rattle.cdc_subtest.specs.Conflicts.{conflict_in}
 use Rattle.cdc_compile.specs.Laws.{HasOneAnswer}
 use Rattle.cdc_compile.proofs.OneLines.{lines_one, lex_one, lines_or_refusal, statements_one, statements_or_refusal, lines_one_refusal}
 use Rattle.cdc_compile.proofs.OneUnits.{each_at, units_one, units_or_refusal, units_one_refusal}

@@ -1,7 +1,6 @@
 pub mod Refusals
 pub mod Texts
 pub mod Unbuilt
-pub mod Conflicts
 pub mod Source
 pub mod Laws
 pub mod Compiled

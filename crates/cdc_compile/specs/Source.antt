@@ -21,7 +21,7 @@ use Rattle.cdc_check.specs.Built.{AllBuilt}
 use Rattle.cdc_check.specs.Check.{checked}
 use Rattle.cdc_compile.specs.declared.refusal.Refusal.{Refusal}
 use Rattle.cdc_compile.specs.declared.refusal.Refusal.TheVariants.{Lex, Parse, Check, Conflict, Memory}
-use Rattle.cdc_compile.specs.Conflicts.{conflict_in}
+use Rattle.cdc_subtest.specs.Conflicts.{conflict_in}
 use Rattle.cdc_compile.specs.Unbuilt.{IsLeastUnbuilt}
 
 -- ---- a source that no stage so far refuses

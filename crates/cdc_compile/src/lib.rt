@@ -5,7 +5,6 @@ mod accepted;
 mod compiled;
 #[cfg(test)]
 mod compiled_tests;
-mod conflicts;
 #[cfg(test)]
 mod forms_tests;
 mod laws;

@@ -14,7 +14,6 @@ ghost use Rattle.cdc_code.specs.Room.{HasRoom};
 ghost use Rattle.cdc_code.specs.Template.{HasCallNumbers};
 ghost use Rattle.cdc_compile.specs.Source.{HasLines, HasStatements, HasBuiltUnits, IsChecked, IsProgramOf};
 
-use crate::conflicts::first_conflict;
 use crate::refusal::Refusal;
 use crate::unbuilt::first_unbuilt;
 use cdc_base::List;
@@ -22,6 +21,7 @@ use cdc_check::{CheckRefusal, check};
 use cdc_nest::units;
 use cdc_parse::statements;
 use cdc_prog::{Kind, Program, limit};
+use cdc_subtest::first_conflict;
 use cdc_token::{Line, logical_lines};
 use cdc_tree::{ParseRefusal, Statement, UnitText};
 use std::alloc::Global;

@@ -1,5 +1,5 @@
 -- Forms that a rule tells apart have different values.
-use Rattle.std.proofs.Common.{◌≡◌, ◌≢◌, ℕ, zero, suc, ◌*◌, ◌<◌, ◌≤◌, Bool, true, false, not, if◌then◌else◌, List, [], ◌∷◌, ◌⊎◌, ℤ, pos, negsuc, ◌+ℤ◌, ◌-ℤ◌, ◌*ℤ◌, neg_ℤ, ◌<ℤ◌, Option, Some, None, refl, sym, ap, ◌∙◌, subst, inl, inr, arith}
+use Rattle.std.proofs.Common.{◌≡◌, ◌≢◌, ℕ, zero, suc, ◌*◌, ◌<◌, ◌≤◌, Bool, true, false, not, if◌then◌else◌, List, [], ◌∷◌, ◌⊎◌, ℤ, pos, negsuc, ◌+ℤ◌, ◌-ℤ◌, ◌*ℤ◌, neg_ℤ, ◌<ℤ◌, Option, Some, None, refl, sym, ap, ◌∙◌, inl, inr, arith}
 use Rattle.std.specs.Prelude.{nat_abs, int_lt, ◌&&◌, ◌||◌}
 use Rattle.std.specs.Int.{◌∣◌}
 use Rattle.std.proofs.Math.IntN.{zero-*ℤ, *ℤ_comm}
@@ -10,18 +10,15 @@ use Rattle.std.proofs.lemmas.Nat.Gcd.{dvd_trans}
 use Rattle.cdc_prog.specs.declared.expr.Var.{Var}
 use Rattle.cdc_prog.specs.declared.expr.Var.TheVariants as var
 use Rattle.cdc_prog.specs.Value.{is_zero}
-use Rattle.cdc_num.specs.declared.interval.Interval.{Interval}
-use Rattle.cdc_prog.specs.declared.affine.Range.{Range}
-use Rattle.cdc_prog.specs.declared.affine.Index.{Index}
 use Rattle.cdc_prog.specs.declared.affine.Scope.{Scope}
 use Rattle.cdc_prog.specs.declared.affine.Term.{Term}
 use Rattle.cdc_prog.specs.declared.affine.Affine.{Affine}
-use Rattle.cdc_prog.specs.Affine.{same_var, is_in, is_index, with_some, total, worth, Speaks}
+use Rattle.cdc_prog.specs.Affine.{same_var, is_in, is_index, total, worth, Speaks}
 use Rattle.cdc_prog.specs.Iterations.{InRanges}
 use Rattle.cdc_num.specs.Divisors.{gcd, divides}
-use Rattle.cdc_num.specs.Intervals.{Between, times, plus, minus, leaves_out_zero, lies_within}
+use Rattle.cdc_num.specs.Intervals.{Between, minus, leaves_out_zero, lies_within}
 use Rattle.cdc_num.proofs.Intervals.{minus_has, leaves_out, or_true}
-use Rattle.cdc_prog.specs.Dependence.{moving, still, same_terms, common, range_in, span, holds, is_empty, own, is_own, own_times, others, same_number, by_steps, by_constant, by_gcd, by_range, by_stride, tells_apart}
+use Rattle.cdc_prog.specs.Dependence.{moving, still, same_terms, common, span, holds, is_empty, own, is_own, own_times, others, same_number, by_steps, by_constant, by_gcd, by_range, by_stride, tells_apart}
 use Rattle.cdc_num.proofs.Whole.{mul-add, add-mul, sub-mul, mul-mul}
 use Rattle.cdc_affine.proofs.Bounds.{span_has}
 use Rattle.cdc_affine.proofs.Worth.{and_true}
@@ -33,7 +30,7 @@ is_zero_of (pos zero) e = refl
 is_zero_of (pos (suc n)) e = cc
 is_zero_of (negsuc n) e = cc
 
-not_true : (p : Bool) → not p ≡ true → p ≡ false
+pub not_true : (p : Bool) → not p ≡ true → p ≡ false
 not_true true e = cc
 not_true false e = refl
 

@@ -10,3 +10,6 @@ pub mod Programs
 pub mod Tested
 pub mod Unaliased
 pub mod Words
+pub mod Earlier
+pub mod Orders
+pub mod Searches

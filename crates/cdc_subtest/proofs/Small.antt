@@ -1,5 +1,5 @@
 -- Parts of small sums of terms are small and few.
-use Rattle.std.proofs.Common.{◌≡◌, ℕ, suc, ◌≤◌, Bool, true, false, if◌then◌else◌, List, [], ◌∷◌, length, refl, arith}
+use Rattle.std.proofs.Common.{◌≡◌, suc, ◌≤◌, Bool, true, false, if◌then◌else◌, List, [], ◌∷◌, length, refl, arith}
 use Rattle.std.specs.Prelude.{◌&&◌}
 use Rattle.cdc_prog.specs.declared.affine.Scope.{Scope}
 use Rattle.cdc_prog.specs.declared.affine.Term.{Term}

@@ -2,3 +2,5 @@ pub mod Reached
 pub mod Seen
 pub mod Sketches
 pub mod Verdicts
+pub mod Conflicts
+pub mod Searches

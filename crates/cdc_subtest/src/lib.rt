@@ -1,6 +1,8 @@
 //! The dependence test of a DOALL.
 #![tactic(auto)]
 
+mod alike;
+mod conflict;
 mod pairs;
 mod parts;
 mod references;
@@ -10,4 +12,5 @@ mod sketch;
 mod sketches;
 mod verdict;
 
+pub use conflict::first_conflict;
 pub use verdict::{Verdict, test};

@@ -67,14 +67,16 @@ fn strides_apart(step: Option<i64>, x: &Sketch, y: &Sketch) -> bool
     }
 }
 
+// The rules in the order of their costs: a divisor is asked for where no other rule holds.
+#[tactic(auto, using(crate::proofs::Orders::by_cost))]
 fn sketches_apart(step: Option<i64>, x: &Sketch, y: &Sketch) -> bool
     ensures { result ≡ glances_apart step (glance_of x.now) (glance_of y.now) }
 {
     same_terms(x.still.as_slice(), y.still.as_slice())
         && (constants_apart(x, y)
-            || divisors_apart(x, y)
+            || strides_apart(step, x, y)
             || ranges_apart(x, y)
-            || strides_apart(step, x, y))
+            || divisors_apart(x, y))
 }
 
 fn one_apart(step: Option<i64>, x: &Option<Sketch>, y: &Option<Sketch>) -> bool

@@ -50,8 +50,27 @@ fn doall_places(
     Ok(first_failing(constant(&control.by), references.as_slice()))
 }
 
+/// The places of the first failing pair of a DOALL.
+///
+/// # Errors
+///
+/// Memory ran out.
+pub fn places_in(
+    alloc: Global,
+    objects: &[Object],
+    dummies: &[Dummy],
+    control: &Control,
+    slots: u32,
+    body: &[Stmt],
+) -> Result<Option<(Place, Place)>, NoMemory>
+    ensures { IfOk result (λ o. o ≡ places_in objects.now (shapes_of dummies.now) (control_of control.now) slots (stmts_of body.now)) }
+{
+    let fixed = fixed_scalars(alloc, objects, dummies, slots, body)?;
+    doall_places(alloc, control, fixed, body)
+}
+
 #[cycle(places)]
-fn places_in(
+fn numbered_in(
     alloc: Global,
     number: u32,
     objects: &[Object],
@@ -63,14 +82,14 @@ fn places_in(
     match s {
         Stmt::If { arms, other } => {
             for arm in arms.as_slice() {
-                let found = places_in_all(alloc, number, objects, dummies, arm.body.as_slice())?;
+                let found = numbered_in_all(alloc, number, objects, dummies, arm.body.as_slice())?;
                 if let Some(pair) = found {
                     return Ok(Some(pair));
                 }
             }
-            places_in_all(alloc, number, objects, dummies, other.as_slice())
+            numbered_in_all(alloc, number, objects, dummies, other.as_slice())
         }
-        Stmt::Do { body, .. } => places_in_all(alloc, number, objects, dummies, body.as_slice()),
+        Stmt::Do { body, .. } => numbered_in_all(alloc, number, objects, dummies, body.as_slice()),
         Stmt::Doall {
             control,
             number: own,
@@ -78,8 +97,7 @@ fn places_in(
             body,
         } => {
             if *own == number {
-                let fixed = fixed_scalars(alloc, objects, dummies, *slots, body.as_slice())?;
-                doall_places(alloc, control, fixed, body.as_slice())
+                places_in(alloc, objects, dummies, control, *slots, body.as_slice())
             } else {
                 Ok(None)
             }
@@ -89,7 +107,7 @@ fn places_in(
 }
 
 #[cycle(places)]
-fn places_in_all(
+fn numbered_in_all(
     alloc: Global,
     number: u32,
     objects: &[Object],
@@ -99,7 +117,7 @@ fn places_in_all(
     ensures { IfOk result (λ o. o ≡ first_in number (places_in objects.now (shapes_of dummies.now)) (stmts_of ss.now)) }
 {
     for s in ss {
-        let found = places_in(alloc, number, objects, dummies, s)?;
+        let found = numbered_in(alloc, number, objects, dummies, s)?;
         if let Some(pair) = found {
             return Ok(Some(pair));
         }
@@ -117,7 +135,7 @@ fn places_of_units(
 {
     for u in units {
         let dummies = u.dummies.as_slice();
-        let found = places_in_all(alloc, number, objects, dummies, u.body.as_slice())?;
+        let found = numbered_in_all(alloc, number, objects, dummies, u.body.as_slice())?;
         if let Some(pair) = found {
             return Ok(Some(pair));
         }
