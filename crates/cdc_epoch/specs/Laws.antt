@@ -1,7 +1,6 @@
 -- What a run owes the sequential program and the memory.
 use Rattle.std.specs.Prelude.{◌≡◌, ℕ, ◌+◌, ◌<◌, ℤ, List, ◌++◌, Some, None}
 use Rattle.cdc_prog.specs.declared.program.Mark.{Mark}
-use Rattle.cdc_prog.specs.Plain.{Program}
 use Rattle.cdc_prog.specs.Input.{Input}
 use Rattle.cdc_prog.specs.InOrder.{End}
 use Rattle.cdc_prog.specs.Resolved.{HasNoDoall}
