@@ -1,0 +1,9 @@
+pub mod Arms
+pub mod Stores
+pub mod Sizes
+pub mod Flows
+pub mod Lays
+pub mod Onward
+pub mod Made
+pub mod Passed
+pub mod Numbers
