@@ -1,0 +1,9 @@
+pub mod Effects
+pub mod Plays
+pub mod Leads
+pub mod Idle
+pub mod Passing
+pub mod Applying
+pub mod Listing
+pub mod Reading
+pub mod Finishes

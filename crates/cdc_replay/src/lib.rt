@@ -1,0 +1,9 @@
+//! The run of a machine over the events of a schedule: which events it applies, what it prints, and how it ends.
+#![tactic(auto)]
+
+mod progress;
+mod replay;
+mod tally;
+
+pub use replay::{Played, replay_lines};
+pub use tally::{RunEnd, Tally};
