@@ -7,3 +7,5 @@ pub mod Applying
 pub mod Listing
 pub mod Reading
 pub mod Finishes
+pub mod Ample
+pub mod Direct

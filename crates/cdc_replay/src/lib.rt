@@ -1,6 +1,7 @@
 //! The run of a machine over the events of a schedule: which events it applies, what it prints, and how it ends.
 #![tactic(auto)]
 
+pub mod laws;
 mod progress;
 mod replay;
 mod tally;
