@@ -1,26 +1,23 @@
 -- An event that is applied in a run.
-use Rattle.std.proofs.Common.{◌≡◌, ℕ, ◌<◌, ◌≤◌, List, [], ◌∷◌, ◌++◌, refl, sym, ap, ◌∙◌, subst, Bool}
-use Rattle.std.specs.Prelude.{Option, Some, None}
-use Rattle.std.specs.Option.{option_map}
+use Rattle.std.proofs.Common.{◌≡◌, ℕ, ◌<◌, ◌≤◌, List, ◌∷◌, ◌++◌, sym, ap, ◌∙◌, subst, Bool}
+use Rattle.std.specs.Prelude.{Option, None}
 use Rattle.cdc_base.specs.Gathered.{HandsOn}
 use Rattle.cdc_base.specs.Outside.{GrewInPart}
 use Rattle.cdc_prog.specs.Input.{Input}
 use Rattle.cdc_prog.specs.Lines.{opened}
 use Rattle.cdc_prog.specs.Meaning.{bytes_of}
 use Rattle.cdc_code.specs.declared.code.Code.{Code}
-use Rattle.cdc_code.specs.Frames.{Frame}
 use Rattle.cdc_fabric.specs.declared.fabric.Fabric.{Ghosts}
 use Rattle.cdc_fabric.specs.Made.{Layout, IsWrittenList, IsInOrder}
 use Rattle.cdc_sched.specs.declared.event.Event.{Event}
 use Rattle.cdc_machine.specs.declared.effect.Effect.{Effect}
-use Rattle.cdc_machine.specs.Machine.{PhaseOf, Serial, Doall, Over, deed}
+use Rattle.cdc_machine.specs.Machine.{deed}
 use Rattle.cdc_machine.specs.Laws.{IsOver}
-use Rattle.cdc_machine.specs.Code.{State, entry_of, exit_of, run, ended_with}
+use Rattle.cdc_machine.specs.Code.{State, entry_of, exit_of, run}
 use Rattle.cdc_epoch.specs.declared.engine.Engine.{Engine}
 use Rattle.cdc_replay.specs.declared.progress.Progress.{Progress}
 use Rattle.cdc_epoch.specs.Side.{Stays}
 use Rattle.cdc_epoch.specs.Ties.{CanGo, Ties, IsReady, DoesDeed, StandsFor}
-use Rattle.cdc_replay.specs.Refused.{end_of}
 use Rattle.cdc_replay.specs.Effects.{piece_in, counted}
 use Rattle.cdc_replay.specs.Replays.{CanReplay, Opening, HasApplied, Playing, Broken, effect_of}
 use Rattle.cdc_replay.proofs.Plays.{did, has_on, plays_on, breaks}

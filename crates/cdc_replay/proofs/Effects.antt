@@ -1,15 +1,12 @@
 -- What an event prints, and how the machine ends in it, are told by its effect.
-use Rattle.std.proofs.Common.{◌≡◌, ℕ, ◌+◌, ℤ, List, [], ◌∷◌, ◌++◌, refl, sym, ap, ◌∙◌, Bool, true, false, append-nil, append_assoc}
+use Rattle.std.proofs.Common.{◌≡◌, ℕ, ℤ, List, [], ◌++◌, refl, sym, ap, ◌∙◌, Bool, true, false, append-nil}
 use Rattle.std.specs.Prelude.{Option, Some, None}
-use Rattle.cdc_prog.specs.declared.piece.Piece.{Piece}
 use Rattle.cdc_prog.specs.declared.fault.Fault.{Fault}
-use Rattle.cdc_prog.specs.InOrder.{End, Done, Faulted, choose}
-use Rattle.cdc_prog.specs.Meaning.{bytes_of, bytes_of_piece}
+use Rattle.cdc_prog.specs.InOrder.{choose}
 use Rattle.cdc_code.specs.Act.{Act, Goes, Reads, Writes, Prints, Forks, Joins, Halts, Faults, Stuck}
 use Rattle.cdc_code.specs.Frames.{Frame}
-use Rattle.cdc_machine.specs.declared.effect.Effect.{Effect}
 use Rattle.cdc_machine.specs.declared.effect.Effect.TheVariants as effect
-use Rattle.cdc_machine.specs.Machine.{TaskOf, Waiting, Running, Ended, PhaseOf, Serial, Doall, Over, StateOf, DeedOf, Rests, Takes, Acts, Closes, Drops, said_by, phase_after, act_effect, closing_effect, closed, forked, forked_by, opened, stopped, least_fault, done, told}
+use Rattle.cdc_machine.specs.Machine.{TaskOf, Waiting, Running, Ended, PhaseOf, Serial, Doall, Over, DeedOf, Rests, Takes, Acts, Closes, Drops, said_by, phase_after, act_effect, closing_effect, closed, forked, forked_by, opened, stopped, least_fault, done, told}
 use Rattle.cdc_machine.specs.Code.{State, ended_with}
 use Rattle.cdc_replay.specs.Effects.{piece_in, end_in}
 

@@ -1,5 +1,5 @@
 -- The end of a run.
-use Rattle.std.proofs.Common.{◌≡◌, ◌≢◌, ◌⊎◌, ℕ, zero, suc, ◌+◌, ◌-◌, ◌<◌, ◌≤◌, ◌^◌, List, [], ◌∷◌, ◌++◌, length, refl, sym, ap, ◌∙◌, subst, arith, Bool, true, false, inl, inr, append-nil}
+use Rattle.std.proofs.Common.{◌≡◌, ◌≢◌, ◌⊎◌, ℕ, ◌+◌, ◌-◌, ◌<◌, ◌≤◌, ◌^◌, List, [], ◌++◌, length, refl, sym, ap, ◌∙◌, subst, arith, inl, inr, append-nil}
 use Rattle.std.specs.Prelude.{Option, Some, None, Result, Ok, Err, unwrap_or}
 use Rattle.std.specs.Option.{option_map}
 use Rattle.cdc_base.specs.Causes.{Rose}
@@ -22,8 +22,8 @@ use Rattle.cdc_replay.specs.declared.tally.RunEnd.TheVariants.{Done, Fault, Stop
 use Rattle.cdc_epoch.specs.Ties.{StandsFor}
 use Rattle.cdc_replay.specs.Refused.{end_of}
 use Rattle.cdc_replay.specs.Effects.{at_start}
-use Rattle.cdc_replay.specs.Applied.{has_ended, applied_events, output_after, with_tail}
-use Rattle.cdc_replay.specs.Replays.{Opening, HasApplied, Playing, Broken, BeginsAs, ReadAll, ReadTo, ListedEnd, PlayedOut, AreApplied, AreFirst, EndsAs, EndsReading, HasSinkCause, HandsOut, Replays, WroteAll, WroteFront, machine_end, end_by, whole}
+use Rattle.cdc_replay.specs.Applied.{has_ended, output_after, with_tail}
+use Rattle.cdc_replay.specs.Replays.{Opening, HasApplied, Playing, BeginsAs, ReadAll, ReadTo, ListedEnd, PlayedOut, AreApplied, AreFirst, EndsAs, EndsReading, HasSinkCause, HandsOut, Replays, WroteAll, WroteFront, machine_end, end_by, whole}
 
 abbrev played_as : {F : Type 0} → Opening F → Progress → RunEnd → Played
 played_as o p answer = record { end = answer; tally = record { events = o.bound - p.left; idle = p.idle }; is_open = p.is_open }

@@ -1,5 +1,5 @@
 -- Idle events that come again.
-use Rattle.std.proofs.Common.{◌≡◌, ℕ, zero, suc, ◌+◌, ◌-◌, ◌<◌, ◌≤◌, ℤ, pos, List, [], ◌∷◌, ◌++◌, length, refl, sym, ap, ◌∙◌, subst, arith, Bool, true, false}
+use Rattle.std.proofs.Common.{◌≡◌, ℕ, zero, suc, ◌+◌, ◌-◌, ◌≤◌, pos, List, ◌∷◌, ◌++◌, length, refl, sym, ap, ◌∙◌, subst, arith, Bool, true, false}
 use Rattle.std.specs.Prelude.{Option, Some, None, is_some, replicate}
 use Rattle.std.specs.Option.{option_map}
 use Rattle.cdc_prog.specs.declared.fault.Fault.{Fault}
@@ -11,24 +11,22 @@ use Rattle.cdc_code.specs.declared.code.Code.{Code}
 use Rattle.cdc_code.specs.Act.{Act, Goes, Reads, Writes, Prints, Forks, Joins, Halts, Faults, Stuck}
 use Rattle.cdc_code.specs.Frames.{Frame}
 use Rattle.cdc_code.specs.Rows.{act}
-use Rattle.cdc_fabric.specs.Calls.{Call}
 use Rattle.cdc_fabric.specs.declared.fabric.Fabric.{Ghosts}
 use Rattle.cdc_sched.specs.declared.event.Event.{Event}
 use Rattle.cdc_sched.specs.declared.event.Event.TheVariants as event
 use Rattle.cdc_machine.specs.declared.effect.Effect.{Effect}
 use Rattle.cdc_machine.specs.declared.effect.Effect.TheVariants as effect
-use Rattle.cdc_machine.specs.Machine.{PhaseOf, Serial, Doall, Over, StateOf, DeedOf, Rests, Takes, Acts, Closes, Drops, deed, enabled, closing, unended, hand, free, least_free, taking, acting, unless_over, call, told, act_effect, closing_effect, least_fault}
+use Rattle.cdc_machine.specs.Machine.{PhaseOf, Serial, Doall, Over, DeedOf, Rests, Takes, Acts, Closes, Drops, deed, enabled, closing, unended, hand, free, least_free, taking, acting, unless_over, call, told, act_effect, closing_effect, least_fault}
 use Rattle.cdc_machine.specs.History.{HistoryOf, given, went}
 use Rattle.cdc_machine.specs.Code.{State, entry_of, exit_of, run, ended_with}
 use Rattle.cdc_epoch.specs.declared.engine.Engine.{Engine}
 use Rattle.cdc_replay.specs.declared.progress.Progress.{Progress}
 use Rattle.cdc_epoch.specs.Side.{Made}
-use Rattle.cdc_epoch.specs.Ties.{Ties, StandsFor, is_there}
+use Rattle.cdc_epoch.specs.Ties.{Ties, is_there}
 use Rattle.cdc_replay.specs.Refused.{end_of}
 use Rattle.cdc_replay.specs.Effects.{idles, passed, IsIdleAgain}
 use Rattle.cdc_replay.specs.Applied.{output_after, has_ended}
 use Rattle.cdc_replay.specs.Replays.{Opening, HasApplied, Playing, Led, effect_of}
-use Rattle.cdc_replay.proofs.Leads.{again}
 
 -- ---- what is idle, but for evictions, rests
 abbrev NoDrop : DeedOf Frame → Type 0

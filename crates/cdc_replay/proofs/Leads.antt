@@ -1,5 +1,5 @@
 -- The events that a run applies in all, from where it has come.
-use Rattle.std.proofs.Common.{◌≡◌, ◌⊎◌, ℕ, zero, suc, ◌+◌, ◌-◌, ◌<◌, ◌≤◌, List, [], ◌∷◌, ◌++◌, length, refl, sym, ap, ◌∙◌, subst, arith, Bool, true, false, if◌then◌else◌, append_assoc, inl, inr}
+use Rattle.std.proofs.Common.{◌≡◌, ◌⊎◌, ℕ, zero, suc, ◌-◌, ◌≤◌, List, [], ◌∷◌, ◌++◌, refl, sym, ap, ◌∙◌, arith, Bool, true, false, if◌then◌else◌, append_assoc, inl, inr}
 use Rattle.std.specs.Prelude.{Option, Some, None, replicate}
 use Rattle.cdc_prog.specs.InOrder.{choose}
 use Rattle.cdc_sched.specs.declared.event.Event.{Event}

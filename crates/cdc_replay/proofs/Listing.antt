@@ -1,14 +1,14 @@
 -- Listed events that are applied or passed over.
-use Rattle.std.proofs.Common.{◌≡◌, ◌⊎◌, ℕ, zero, suc, ◌+◌, ◌-◌, ◌<◌, ◌≤◌, List, [], ◌∷◌, ◌++◌, length, refl, sym, ap, ◌∙◌, subst, arith, Bool, true, false, inl, inr}
+use Rattle.std.proofs.Common.{◌≡◌, ◌⊎◌, ℕ, zero, suc, ◌+◌, ◌-◌, ◌<◌, ◌≤◌, List, ◌∷◌, ◌++◌, length, refl, sym, ap, ◌∙◌, subst, arith, Bool, true, false, inl, inr}
 use Rattle.std.specs.Prelude.{Option, Some, None, is_some, is_none, nat_lt, ◌&&◌, replicate}
 use Rattle.std.specs.Option.{option_map}
 use Rattle.std.proofs.lemmas.Bool.Decides.{nat_tests}
 use Rattle.cdc_prog.specs.InOrder.{End}
 use Rattle.cdc_fabric.specs.declared.fabric.Fabric.{Ghosts}
 use Rattle.cdc_sched.specs.declared.event.Event.{Event}
-use Rattle.cdc_sched.specs.Told.{Told, told_of}
+use Rattle.cdc_sched.specs.Told.{Told}
 use Rattle.cdc_machine.specs.declared.effect.Effect.{Effect}
-use Rattle.cdc_machine.specs.Machine.{DeedOf, Rests, deed}
+use Rattle.cdc_machine.specs.Machine.{Rests, deed}
 use Rattle.cdc_machine.specs.Code.{run, ended_with}
 use Rattle.cdc_code.specs.Frames.{Frame}
 use Rattle.cdc_machine.specs.History.{HistoryOf}

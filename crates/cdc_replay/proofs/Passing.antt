@@ -1,9 +1,9 @@
 -- Events that are passed over.
-use Rattle.std.proofs.Common.{◌≡◌, ℕ, zero, suc, ◌≤◌, List, [], ◌∷◌, ◌++◌, inl, inr, refl, sym, ap, ◌∙◌, subst}
-use Rattle.std.specs.Prelude.{Option, Some, None, Result, Ok, Err, replicate}
+use Rattle.std.proofs.Common.{◌≡◌, ℕ, ◌++◌, inl, inr, refl, sym, ap, ◌∙◌}
+use Rattle.std.specs.Prelude.{Option, Some, None, Ok, replicate}
 use Rattle.cdc_sched.specs.declared.event.Event.{Event}
 use Rattle.cdc_sched.specs.declared.event.Event.TheVariants as event
-use Rattle.cdc_sched.specs.Told.{Told, Answer, told_of, PassedOver}
+use Rattle.cdc_sched.specs.Told.{Told, Answer, PassedOver}
 use Rattle.cdc_machine.specs.declared.effect.Effect.{Effect}
 use Rattle.cdc_machine.specs.declared.effect.Effect.TheVariants as effect
 use Rattle.cdc_replay.specs.Effects.{IsIdleAgain}

@@ -1,20 +1,19 @@
 -- The reading of listed events.
-use Rattle.std.proofs.Common.{◌≡◌, ◌≢◌, ◌⊎◌, ℕ, zero, suc, ◌+◌, ◌-◌, ◌<◌, ◌≤◌, List, [], ◌∷◌, ◌++◌, refl, sym, ap, ◌∙◌, subst, arith, Bool, true, false, inl, inr, ◌||◌}
-use Rattle.std.specs.Prelude.{Option, Some, None, Result, Ok, Err}
+use Rattle.std.proofs.Common.{◌≡◌, ◌⊎◌, ℕ, ◌≤◌, List, [], ◌∷◌, refl, sym, ap, ◌∙◌, subst, arith, Bool, true, false, inl, inr}
+use Rattle.std.specs.Prelude.{Option, Some, None, Ok, Err}
 use Rattle.cdc_base.specs.Causes.{Rose}
 use Rattle.cdc_fabric.specs.declared.fabric.Fabric.{Ghosts}
 use Rattle.cdc_sched.specs.declared.event.Event.{Event}
 use Rattle.cdc_sched.specs.declared.events.Events.{Ghosts as EventsOf}
 use Rattle.cdc_sched.specs.declared.events.EventRefusal.{EventRefusal}
 use Rattle.cdc_sched.specs.declared.events.EventRefusal.TheVariants as refusal
-use Rattle.cdc_sched.specs.Told.{Told, Answer, told_of, is_read_fault, Gives, GivesNext, HasEventCause}
+use Rattle.cdc_sched.specs.Told.{Told, Answer, told_of, Gives, HasEventCause}
 use Rattle.cdc_epoch.specs.declared.engine.Engine.{Engine}
 use Rattle.cdc_replay.specs.declared.progress.Progress.{Progress}
-use Rattle.cdc_replay.specs.declared.tally.RunEnd.{RunEnd}
-use Rattle.cdc_replay.specs.declared.tally.RunEnd.TheVariants.{Done, Fault, Stopped, BadEvent, ReadFault, SinkFault}
+use Rattle.cdc_replay.specs.declared.tally.RunEnd.TheVariants.{Stopped, BadEvent, ReadFault, SinkFault}
 use Rattle.cdc_replay.specs.Refused.{refused_end}
-use Rattle.cdc_replay.specs.Applied.{has_ended, with_tail}
-use Rattle.cdc_replay.specs.Replays.{Opening, Playing, Broken, TakesOn, GoesOnWith, Begins, BeginsAs, ListedEnd, ReadAll, ReadTo, EndsReading, LastIs, LeadsTo, whole}
+use Rattle.cdc_replay.specs.Applied.{has_ended}
+use Rattle.cdc_replay.specs.Replays.{Opening, Playing, TakesOn, GoesOnWith, Begins, BeginsAs, ListedEnd, ReadAll, ReadTo, EndsReading, whole}
 use Rattle.cdc_replay.proofs.Leads.{grows}
 
 -- ---- what is told of the next event

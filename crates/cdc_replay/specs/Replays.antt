@@ -18,7 +18,7 @@ use Rattle.cdc_sched.specs.declared.events.EventRefusal.TheVariants as refusal
 use Rattle.cdc_machine.specs.declared.effect.Effect.{Effect}
 use Rattle.cdc_machine.specs.Machine.{deed, call, told}
 use Rattle.cdc_machine.specs.Laws.{IsOver}
-use Rattle.cdc_machine.specs.Code.{State, entry_of, exit_of, run, ended_with}
+use Rattle.cdc_machine.specs.Code.{entry_of, exit_of, run, ended_with}
 use Rattle.cdc_epoch.specs.declared.engine.Engine.{Engine}
 use Rattle.cdc_replay.specs.declared.progress.Progress.{Progress}
 use Rattle.cdc_replay.specs.declared.replay.Played.{Played}

@@ -1,4 +1,4 @@
-use Rattle.std.proofs.Common.{◌≡◌, ◌≤◌, ◌∙◌, ap, ℕ, Ok, Err}
+use Rattle.std.proofs.Common.{◌∙◌, ap, Ok, Err}
 use Rattle.std.specs.Prelude.{Result, OnErr}
 use Rattle.cdc_base.specs.Gathered.{waiting}
 use Rattle.cdc_prog.specs.Lines.{opened}

@@ -1,4 +1,4 @@
-use Rattle.std.proofs.Common.{◌≡◌, ◌≤◌, ◌+◌, ℕ, arith}
+use Rattle.std.proofs.Common.{◌≤◌, ◌+◌, ℕ, arith}
 use Rattle.cdc_replay.proofs.Passing.{skipped, idle_is}
 use Rattle.cdc_replay.proofs.replay.pass_idle.Goals as goal
 

@@ -1,4 +1,4 @@
-use Rattle.std.proofs.Common.{◌≡◌, ℕ, List, []}
+use Rattle.std.proofs.Common.{[]}
 use Rattle.cdc_base.specs.Gathered.{waiting}
 use Rattle.cdc_sched.specs.Tail.{tail_event}
 use Rattle.cdc_replay.specs.Applied.{has_ended, with_tail}

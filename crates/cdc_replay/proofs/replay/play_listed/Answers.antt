@@ -1,7 +1,7 @@
 use Rattle.std.specs.Prelude.{Option, ◌||◌}
 use Rattle.cdc_sched.specs.declared.event.Event.{Event}
 use Rattle.cdc_sched.specs.Told.{Gives}
-use Rattle.std.proofs.Common.{◌≡◌, refl, sym, ap, ◌∙◌, subst, ℕ, List, ◌∷◌, Ok, Err, Bool, true, false}
+use Rattle.std.proofs.Common.{◌≡◌, refl, sym, ◌∙◌, subst, ◌∷◌, Ok, Err, Bool, true, false}
 use Rattle.cdc_base.specs.Gathered.{waiting}
 use Rattle.cdc_replay.specs.declared.tally.RunEnd.{RunEnd}
 use Rattle.cdc_replay.specs.Replays.{ListedEnd}

@@ -1,4 +1,4 @@
-use Rattle.std.proofs.Common.{◌≡◌, ℕ, List}
+use Rattle.std.proofs.Common.{◌≡◌, List}
 use Rattle.cdc_base.specs.Gathered.{waiting}
 use Rattle.cdc_sched.specs.declared.event.Event.{Event}
 use Rattle.cdc_replay.specs.Replays.{CanReplay, Opening, Playing, GoesOnWith}

@@ -1,4 +1,4 @@
-use Rattle.std.proofs.Common.{◌≡◌, ℕ, List, [], refl, subst}
+use Rattle.std.proofs.Common.{[], refl, subst}
 use Rattle.cdc_base.specs.Gathered.{waiting}
 use Rattle.cdc_sched.specs.Tail.{tail_event}
 use Rattle.cdc_replay.specs.declared.tally.RunEnd.{RunEnd}

@@ -1,9 +1,7 @@
-use Rattle.std.proofs.Common.{◌≡◌, ◌≤◌, ◌∙◌, ◌++◌, ◌∷◌, ◌-◌, ap, sym, subst, ℕ, Ok, Err}
+use Rattle.std.proofs.Common.{◌≤◌, ◌∙◌, ◌++◌, ◌∷◌, ◌-◌, ap, sym, subst, ℕ, Ok, Err}
 use Rattle.std.specs.Prelude.{Result, OnErr, replicate}
 use Rattle.cdc_base.specs.Gathered.{waiting}
-use Rattle.cdc_sched.specs.Told.{Told}
 use Rattle.cdc_replay.specs.declared.progress.Progress.{Progress}
-use Rattle.cdc_replay.specs.Effects.{passed, can_go_on}
 use Rattle.cdc_replay.specs.Replays.{Playing}
 use Rattle.cdc_replay.proofs.Listing.{stopped, running, passes, takes, begins, many_play, can_left, left_after}
 use Rattle.cdc_replay.proofs.Passing.{skipped}
