@@ -32,7 +32,7 @@ said_front ps h [] ys s = tt
 said_front [] h (x ∷ xs) ys s = s
 said_front (p ∷ ps) h (x ∷ xs) ys s = (s.0, said_front ps h xs ys s.1)
 
-kept_append : (xs ys : List (List ℕ)) → kept_words (xs ++ ys) ≡ kept_words xs ++ kept_words ys
+pub kept_append : (xs ys : List (List ℕ)) → kept_words (xs ++ ys) ≡ kept_words xs ++ kept_words ys
 kept_append xs ys = ap (map read_words) (filter-append is_kept xs ys) ∙ map-append read_words (filter is_kept xs) (filter is_kept ys)
 
 front_front : (xs ys : List (List ℕ)) → IsFront (xs ++ ys) → IsFront xs
@@ -47,10 +47,10 @@ no_more above rest longer zs e d f less =
     let not : IsFront (above ++ g.next ∷ []) → ⊥ = subst (λ r. Departs above r) g.rest d in
     not (front_front (above ++ g.next ∷ []) g.more (subst IsFront split f))
 
-order : (m n : ℕ) → (m < n) ⊎ (n ≤ m)
+pub order : (m n : ℕ) → (m < n) ⊎ (n ≤ m)
 order m n = grind arith
 
-fewer : (xs ys zs ws : List (List ℕ)) → xs ++ ys ≡ zs ++ ws → length zs ≤ length xs → length (kept_words zs) ≤ length (kept_words xs)
+pub fewer : (xs ys zs ws : List (List ℕ)) → xs ++ ys ≡ zs ++ ws → length zs ≤ length xs → length (kept_words zs) ≤ length (kept_words xs)
 fewer xs ys [] ws e le = omega arith
 fewer [] ys (z ∷ zs) ws e le = absurd (omega (arith, le))
 fewer (x ∷ xs) ys (z ∷ zs) ws e le =
@@ -70,7 +70,7 @@ not_both {bytes} {header} {at} h b =
     (λ (le : length (lines (take at bytes)) ≤ length b.above). absurd (omega (arith, fewer b.above b.rest (lines (take at bytes)) (lines (drop at bytes)) e le, b.short, h.all)))
     (order (length b.above) (length (lines (take at bytes))))
 
-same_bad : {bytes : List ℕ} {m n : ℕ} → IsBadHeader bytes m → IsBadHeader bytes n → m ≡ n
+pub same_bad : {bytes : List ℕ} {m n : ℕ} → IsBadHeader bytes m → IsBadHeader bytes n → m ≡ n
 same_bad a b =
     let e : a.above ++ a.rest ≡ b.above ++ b.rest = sym a.split ∙ b.split in
     ⊎_elim

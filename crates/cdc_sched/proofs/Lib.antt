@@ -6,5 +6,6 @@ pub mod Listings
 pub mod Numbers
 pub mod Passes
 pub mod Powers
+pub mod Same
 pub mod Steps
 pub mod Words

@@ -8,6 +8,7 @@ pub mod Limits
 pub mod Lines
 pub mod ListedLines
 pub mod Listing
+pub mod OneHeader
 pub mod Phrases
 pub mod Tail
 pub mod Tails

@@ -8,6 +8,7 @@ mod fit;
 mod header;
 mod header_line;
 mod kept;
+pub mod laws;
 mod line;
 mod listed;
 mod listed_line;
