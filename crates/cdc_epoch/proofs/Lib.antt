@@ -1,6 +1,3 @@
-pub mod Tracks
-pub mod Hits
-pub mod Begins
 pub mod Carries
 pub mod ReadyOnCode
 pub mod Ports

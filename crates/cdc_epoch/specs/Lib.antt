@@ -1,9 +1,5 @@
-pub mod Machine
 pub mod Side
 pub mod Taken
 pub mod Faulting
 pub mod Ties
-pub mod Ready
-pub mod Laws
-pub mod Stands
 pub mod EngineLaws

@@ -1,12 +1,9 @@
-//! The machine that carries out the tasks of a program, event by event: some processors on any memory side, and one
-//! processor on memory without caches.
+//! The machine that carries out the tasks of a program, event by event: some processors on any memory side.
 #![tactic(auto)]
 
 mod engine;
 pub mod laws;
 mod lent;
-mod machine;
-mod memory;
 mod outcome;
 mod roster;
 
@@ -14,6 +11,4 @@ pub use cdc_fabric::Counts;
 pub use cdc_machine::Effect;
 pub use cdc_task::Piece;
 pub use engine::Engine;
-pub use machine::Machine;
-pub use memory::Memory;
-pub use outcome::Outcome;
+pub use outcome::{Outcome, Tally};

@@ -14,7 +14,7 @@ use Rattle.cdc_code.specs.Frames.{Frame}
 use Rattle.cdc_machine.specs.History.{HistoryOf}
 use Rattle.cdc_epoch.specs.declared.engine.Engine.{Engine}
 use Rattle.cdc_replay.specs.declared.progress.Progress.{Progress}
-use Rattle.cdc_replay.specs.declared.tally.RunEnd.{RunEnd}
+use Rattle.cdc_epoch.specs.declared.outcome.Outcome.{Outcome}
 use Rattle.cdc_replay.specs.Refused.{end_of}
 use Rattle.cdc_replay.specs.Effects.{passed, can_go_on, IsIdleAgain}
 use Rattle.cdc_replay.specs.Applied.{has_ended}
@@ -35,7 +35,7 @@ by_left : (left : ℕ) (none : Bool) → (nat_lt 0 left && none) ≡ false → (
 by_left zero none is = inl refl
 by_left (suc left) none is = let more : nat_lt 0 (suc left) ≡ true = grind (arith, nat_tests) in inr (ap (λ b. b && none) (sym more) ∙ is)
 
-none_of : (o : Option RunEnd) → is_none o ≡ true → o ≡ None
+none_of : (o : Option Outcome) → is_none o ≡ true → o ≡ None
 none_of None is = refl
 none_of (Some e) is = absurd (cc is)
 

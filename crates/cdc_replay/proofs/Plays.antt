@@ -1,5 +1,5 @@
 -- One event of a run.
-use Rattle.std.proofs.Common.{◌≡◌, ℕ, suc, ◌+◌, ◌-◌, ◌≤◌, ℤ, List, [], ◌∷◌, ◌++◌, length, refl, sym, ap, ◌∙◌, subst, arith, Bool, false, append_assoc}
+use Rattle.std.proofs.Common.{◌≡◌, ℕ, suc, ◌+◌, ◌-◌, ◌≤◌, ℤ, List, [], ◌∷◌, ◌++◌, length, refl, sym, ap, ◌∙◌, subst, arith, Bool, false, append_assoc, append-nil}
 use Rattle.std.specs.Prelude.{Option}
 use Rattle.std.specs.Option.{option_map}
 use Rattle.cdc_base.specs.Gathered.{HandsOn}
@@ -147,3 +147,19 @@ module _ {F : Type 0} (side : Ghosts F) (o : Opening F) where
       let whole : h.hands.front ++ (waits ++ text) ≡ output_after o.code o.records (event ∷ applied) =
       sym (append_assoc h.hands.front waits text) ∙ (ap (λ l. l ++ text) h.hands.split ∙ sym (prints event applied old.side e is)) in
       record { has = has; cut = subst (GrewByFront o.taken now) whole (front_second h.hands.front h.hands.took (front_of_part part)) }
+
+-- what some events print begins what more of them print
+pub output_grows : (code : Code) (records : Input) (more events : List Event) → (rest : List ℕ) × (output_after code records (more ++ events) ≡ output_after code records events ++ rest)
+output_grows code records [] events = ([], sym (append-nil (output_after code records events)))
+output_grows code records (e ∷ more) events =
+    let before = output_grows code records more events in
+    let h = run code records (more ++ events) in
+    let d = deed e h.machine in
+    let look = act code in
+    let c = call look (entry_of code) (exit_of code) d h.machine in
+    let text = bytes_of code.texts (piece_in (told look (entry_of code) (exit_of code) d h.machine false)) in
+    let said = says look (entry_of code) (exit_of code) (given c h.calls) d h.machine false in
+    (before.0 ++ text,
+        ap (bytes_of code.texts) said
+        ∙ (bytes_of_both code.texts h.machine.printed (piece_in (told look (entry_of code) (exit_of code) d h.machine false))
+        ∙ (ap (λ (l : List ℕ). l ++ text) before.1 ∙ append_assoc (output_after code records events) before.0 text)))

@@ -10,7 +10,7 @@ use Rattle.cdc_sched.specs.declared.events.EventRefusal.TheVariants as refusal
 use Rattle.cdc_sched.specs.Told.{Told, Answer, told_of, Gives, HasEventCause}
 use Rattle.cdc_epoch.specs.declared.engine.Engine.{Engine}
 use Rattle.cdc_replay.specs.declared.progress.Progress.{Progress}
-use Rattle.cdc_replay.specs.declared.tally.RunEnd.TheVariants.{Stopped, BadEvent, ReadFault, SinkFault}
+use Rattle.cdc_epoch.specs.declared.outcome.Outcome.TheVariants.{Stopped, BadEvent, ReadFault, SinkFault}
 use Rattle.cdc_replay.specs.Refused.{refused_end}
 use Rattle.cdc_replay.specs.Applied.{has_ended}
 use Rattle.cdc_replay.specs.Replays.{Opening, Playing, TakesOn, GoesOnWith, Begins, BeginsAs, ListedEnd, ReadAll, ReadTo, EndsReading, whole}

@@ -7,8 +7,8 @@ use Rattle.cdc_sched.specs.declared.event.Event.TheVariants as event
 use Rattle.cdc_machine.specs.declared.effect.Effect.{Effect}
 use Rattle.cdc_machine.specs.declared.effect.Effect.TheVariants as effect
 use Rattle.cdc_replay.specs.declared.progress.Progress.{Progress}
-use Rattle.cdc_replay.specs.declared.tally.RunEnd.{RunEnd}
-use Rattle.cdc_replay.specs.declared.tally.RunEnd.TheVariants as run
+use Rattle.cdc_epoch.specs.declared.outcome.Outcome.{Outcome}
+use Rattle.cdc_epoch.specs.declared.outcome.Outcome.TheVariants as run
 
 abbrev pub piece_in : Effect → List Piece
 piece_in (effect.Printed piece) = piece ∷ []
@@ -24,7 +24,7 @@ end_in effect.Ended o = Some Done
 end_in (effect.Faulted kind line) o = Some (Faulted (record { kind = kind; line = line }))
 end_in e o = o
 
-abbrev pub run_end_in : Effect → Option RunEnd → Option RunEnd
+abbrev pub run_end_in : Effect → Option Outcome → Option Outcome
 run_end_in effect.Ended o = Some run.Done
 run_end_in (effect.Faulted kind line) o = Some (run.Fault kind line)
 run_end_in e o = o

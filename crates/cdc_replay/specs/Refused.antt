@@ -3,14 +3,14 @@ use Rattle.cdc_prog.specs.InOrder as sequential
 use Rattle.cdc_prog.specs.InOrder.{End}
 use Rattle.cdc_sched.specs.declared.events.EventRefusal.{EventRefusal}
 use Rattle.cdc_sched.specs.declared.events.EventRefusal.TheVariants as refusal
-use Rattle.cdc_replay.specs.declared.tally.RunEnd.{RunEnd}
-use Rattle.cdc_replay.specs.declared.tally.RunEnd.TheVariants.{Done, Fault, BadEvent, ReadFault}
+use Rattle.cdc_epoch.specs.declared.outcome.Outcome.{Outcome}
+use Rattle.cdc_epoch.specs.declared.outcome.Outcome.TheVariants.{Done, Fault, BadEvent, ReadFault}
 
-abbrev pub refused_end : EventRefusal → RunEnd
+abbrev pub refused_end : EventRefusal → Outcome
 refused_end (refusal.BadEvent line) = BadEvent line
 refused_end refusal.ReadFault = ReadFault
 
 -- as the machine ended
-abbrev pub end_of : End → RunEnd
+abbrev pub end_of : End → Outcome
 end_of sequential.Done = Done
 end_of (sequential.Faulted f) = Fault f.kind f.line

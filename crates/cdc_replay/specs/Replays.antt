@@ -26,8 +26,8 @@ use Rattle.cdc_epoch.specs.Side.{Made}
 use Rattle.cdc_epoch.specs.Ties.{CanGo, StandsFor, is_there}
 use Rattle.cdc_replay.specs.Effects.{idles}
 use Rattle.cdc_replay.specs.Refused.{end_of}
-use Rattle.cdc_replay.specs.declared.tally.RunEnd.{RunEnd}
-use Rattle.cdc_replay.specs.declared.tally.RunEnd.TheVariants.{Stopped, BadEvent, ReadFault, SinkFault}
+use Rattle.cdc_epoch.specs.declared.outcome.Outcome.{Outcome}
+use Rattle.cdc_epoch.specs.declared.outcome.Outcome.TheVariants.{Stopped, BadEvent, ReadFault, SinkFault}
 use Rattle.cdc_replay.specs.Applied.{with_listed, with_tail, behind_listed, has_ended, applied_events, output_after}
 
 -- ---- what the events ask of an engine
@@ -129,7 +129,7 @@ ReadTo o None bad left applied events = Unit {0}
 ReadTo o (Some t) bad left applied events = (t.bad ≡ Some bad) × ((tail : ℕ → Option Event) → whole o t.events t.bad tail left applied ≡ events)
 
 -- where the reading of the listed events ended
-abbrev pub ListedEnd : {F : Type 0} (side : Ghosts F) → Opening F → Option Told → (left : ℕ) → List Event → Result (Unit {0}) RunEnd → Engine F side → Progress → (waits : List ℕ) → (now : Option (List ℕ)) → Type 0
+abbrev pub ListedEnd : {F : Type 0} (side : Ghosts F) → Opening F → Option Told → (left : ℕ) → List Event → Result (Unit {0}) Outcome → Engine F side → Progress → (waits : List ℕ) → (now : Option (List ℕ)) → Type 0
 ListedEnd side o told left applied (Ok u) engine progress waits now = (events : List Event) × Playing side o events engine progress waits now × ReadAll o told left applied progress.left events
 ListedEnd side o told left applied (Err (BadEvent line)) engine progress waits now = (events : List Event) × Playing side o events engine progress waits now × ReadTo o told line left applied events
 ListedEnd side o told left applied (Err ReadFault) engine progress waits now = (events : List Event) × Playing side o events engine progress waits now × BeginsAs o told left applied events
@@ -145,14 +145,14 @@ pub record SameEvents {E : Type 0} (events : EventsOf E) (old new : E) : Type 0 
   pub last : events.last new ≡ events.last old
 
 -- the answer with which a reading ended
-abbrev pub LastIs : RunEnd → Option Answer → Type 0
+abbrev pub LastIs : Outcome → Option Answer → Type 0
 LastIs (BadEvent line) last = last ≡ Some (Err (refusal.BadEvent line))
 LastIs ReadFault last = last ≡ Some (Err refusal.ReadFault)
 LastIs SinkFault last = Unit {0}
 LastIs end last = last ≡ Some (Ok None)
 
 -- a fault of reading comes only where the count rose, or one was answered before
-pub record EndsReading {E : Type 0} (events : EventsOf E) (old new : E) (end : RunEnd) : Type 0 where
+pub record EndsReading {E : Type 0} (events : EventsOf E) (old new : E) (end : Outcome) : Type 0 where
   pub procs : events.procs new ≡ events.procs old
   pub last : LastIs end (events.last new)
   pub later : events.faults old ≤ events.faults new
@@ -160,19 +160,19 @@ pub record EndsReading {E : Type 0} (events : EventsOf E) (old new : E) (end : R
   pub kept : end ≢ ReadFault → events.faults new ≡ events.faults old
 
 -- the sink's count rose where the run ended with it, and stayed else
-pub record HasSinkCause (before now : ℕ) (end : RunEnd) : Type 0 where
+pub record HasSinkCause (before now : ℕ) (end : Outcome) : Type 0 where
   pub later : before ≤ now
   pub failed : end ≡ SinkFault → Rose before now
   pub kept : end ≢ SinkFault → now ≡ before
 
 -- ---- a whole run
 -- what ended it before the machine did
-abbrev pub end_by : Result (Unit {0}) RunEnd → Option RunEnd → RunEnd
+abbrev pub end_by : Result (Unit {0}) Outcome → Option Outcome → Outcome
 end_by (Ok u) end = unwrap_or end Stopped
 end_by (Err end) machine = end
 
 -- how the machine ended after these events, or that it was stopped
-abbrev pub machine_end : {F : Type 0} → Opening F → List Event → RunEnd
+abbrev pub machine_end : {F : Type 0} → Opening F → List Event → Outcome
 machine_end o events = unwrap_or (option_map end_of (ended_with (run o.code o.records events).machine.phase)) Stopped
 
 -- these events are all that the schedule has the run apply
@@ -185,7 +185,7 @@ abbrev pub AreFirst : {F : Type 0} → Opening F → Option Told → (tail : ℕ
 AreFirst o None tail events = Unit {0}
 AreFirst o (Some t) tail events = (more : List Event) × (applied_events o.code o.records t tail o.bound ≡ more ++ events)
 
-abbrev pub PlayedOut : {F : Type 0} (side : Ghosts F) → Opening F → Option Told → (tail : ℕ → Option Event) → Result (Unit {0}) RunEnd → Engine F side → Progress → (waits : List ℕ) → (now : Option (List ℕ)) → Type 0
+abbrev pub PlayedOut : {F : Type 0} (side : Ghosts F) → Opening F → Option Told → (tail : ℕ → Option Event) → Result (Unit {0}) Outcome → Engine F side → Progress → (waits : List ℕ) → (now : Option (List ℕ)) → Type 0
 PlayedOut side o told tail (Ok u) engine progress waits now = (events : List Event) × Playing side o events engine progress waits now × AreApplied o told None tail events
 PlayedOut side o told tail (Err (BadEvent line)) engine progress waits now = (events : List Event) × Playing side o events engine progress waits now × AreApplied o told (Some line) tail events
 PlayedOut side o told tail (Err ReadFault) engine progress waits now = (events : List Event) × Playing side o events engine progress waits now × AreFirst o told tail events
@@ -193,7 +193,7 @@ PlayedOut side o told tail (Err SinkFault) engine progress waits now = (events :
 PlayedOut side o told tail (Err end) engine progress waits now = ⊥
 
 -- what waits was handed out, or the sink failed in it; where reading or writing had failed nothing is handed out
-abbrev pub HandsOut : RunEnd → (answer : RunEnd) → (taken now : Option (List ℕ)) → (waits : List ℕ) → (before after : ℕ) → Type 0
+abbrev pub HandsOut : Outcome → (answer : Outcome) → (taken now : Option (List ℕ)) → (waits : List ℕ) → (before after : ℕ) → Type 0
 HandsOut ReadFault answer taken now waits before after = (answer ≡ ReadFault) × (now ≡ taken) × (after ≡ before)
 HandsOut SinkFault answer taken now waits before after = (answer ≡ SinkFault) × (now ≡ taken) × (after ≡ before)
 HandsOut end answer taken now waits before after =
@@ -207,7 +207,7 @@ WroteAll o events played now = (now ≡ grown o.taken (output_after o.code o.rec
 abbrev pub WroteFront : {F : Type 0} → Opening F → List Event → (now : Option (List ℕ)) → Type 0
 WroteFront o events now = GrewByFront o.taken now (output_after o.code o.records events)
 
-abbrev pub EndsAs : {F : Type 0} → Opening F → Option Told → (tail : ℕ → Option Event) → List Event → RunEnd → Played → (now : Option (List ℕ)) → Type 0
+abbrev pub EndsAs : {F : Type 0} → Opening F → Option Told → (tail : ℕ → Option Event) → List Event → Outcome → Played → (now : Option (List ℕ)) → Type 0
 EndsAs o told tail events (BadEvent line) played now = WroteAll o events played now × AreApplied o told (Some line) tail events
 EndsAs o told tail events ReadFault played now = WroteFront o events now × AreFirst o told tail events
 EndsAs o told tail events SinkFault played now = WroteFront o events now × AreFirst o told tail events

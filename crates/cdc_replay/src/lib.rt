@@ -3,8 +3,8 @@
 
 pub mod laws;
 mod progress;
+mod refused;
 mod replay;
-mod tally;
 
+pub use cdc_epoch::{Outcome, Tally};
 pub use replay::{Played, replay_lines};
-pub use tally::{RunEnd, Tally};

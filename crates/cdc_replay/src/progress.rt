@@ -3,7 +3,7 @@
 ghost use Rattle.std.specs.Prelude.{◌≡◌, ◌≤◌, ◌+◌, ◌<◌, ◌^◌};
 ghost use Rattle.cdc_replay.specs.Effects.{at_start, counted, passed, can_go_on};
 
-use crate::tally::RunEnd;
+use cdc_epoch::Outcome;
 use cdc_machine::Effect;
 
 /// How far a run has come.
@@ -16,7 +16,7 @@ pub struct Progress {
     /// Whether the last line of the output is open.
     pub is_open: bool,
     /// How the machine has ended, where it has.
-    pub end: Option<RunEnd>,
+    pub end: Option<Outcome>,
 }
 
 impl Progress {
@@ -41,8 +41,8 @@ impl Progress {
         self.left -= 1;
         match effect {
             Effect::Idle => self.idle += 1,
-            Effect::Ended => self.end = Some(RunEnd::Done),
-            Effect::Faulted(kind, line) => self.end = Some(RunEnd::Fault(kind, line)),
+            Effect::Ended => self.end = Some(Outcome::Done),
+            Effect::Faulted(kind, line) => self.end = Some(Outcome::Fault(kind, line)),
             _ => {}
         }
     }

@@ -19,9 +19,9 @@ ghost use Rattle.cdc_replay.specs.Replays.{CanReplay, Opening, Playing, Broken, 
 ghost use Rattle.cdc_sched.specs.Tail.{tail_event};
 
 use crate::progress::Progress;
-use crate::tally::{RunEnd, Tally, refused};
+use crate::refused::refused;
 use cdc_base::{Gathered, List, Sink, SinkFault};
-use cdc_epoch::Engine;
+use cdc_epoch::{Engine, Outcome, Tally};
 use cdc_fabric::Fabric;
 use cdc_machine::Effect;
 use cdc_prog::{Piece, opens, put_piece};
@@ -30,7 +30,7 @@ use cdc_sched::{Event, EventRefusal, Events, Tail};
 /// How a run ended, what it counted, and whether the last line of its output is open.
 #[derive(Clone, Copy)]
 pub struct Played {
-    pub end: RunEnd,
+    pub end: Outcome,
     pub tally: Tally,
     pub is_open: bool,
 }
@@ -174,7 +174,7 @@ fn play_listed<F: Fabric, E: Events, K: Sink>(
     progress: &mut Progress,
     gathered: &mut Gathered,
     out: &mut K,
-) -> Result<(), RunEnd>
+) -> Result<(), Outcome>
     requires procs { E.procs events.old ≡ F.procs machine.old.side }
     requires can { CanReplay F.Fabric machine.old }
     requires playing { (o : Opening F) × (applied : Items MachineEvent) × Playing F.Fabric o applied machine.old progress.old (waiting gathered.old) (K.taken out.old) }
@@ -191,7 +191,7 @@ fn play_listed<F: Fabric, E: Events, K: Sink>(
             Ok(None) => return Ok(()),
             Ok(Some(event)) => match take_event(machine, events, event, progress, gathered, out) {
                 Ok(()) => {}
-                Err(_) => return Err(RunEnd::SinkFault),
+                Err(_) => return Err(Outcome::SinkFault),
             },
         }
     }
@@ -234,7 +234,7 @@ fn play<F: Fabric, E: Events, K: Sink>(
     progress: &mut Progress,
     gathered: &mut Gathered,
     out: &mut K,
-) -> Result<(), RunEnd>
+) -> Result<(), Outcome>
     requires procs { E.procs events.old ≡ F.procs machine.old.side }
     requires tail_procs { tail_procs tail.old ≡ F.procs machine.old.side }
     requires can { CanReplay F.Fabric machine.old }
@@ -251,29 +251,29 @@ fn play<F: Fabric, E: Events, K: Sink>(
     }
     match play_tail(machine, tail, progress, gathered, out) {
         Ok(()) => Ok(()),
-        Err(_) => Err(RunEnd::SinkFault),
+        Err(_) => Err(Outcome::SinkFault),
     }
 }
 
 // How a run ended: by the refusal of an event or a failure of the sink, as the machine ended, or before that.
-fn end_of_run(played: Result<(), RunEnd>, machine: Option<RunEnd>) -> RunEnd
+fn end_of_run(played: Result<(), Outcome>, machine: Option<Outcome>) -> Outcome
     ensures { result ≡ end_by played machine }
 {
     match played {
         Err(end) => end,
-        Ok(()) => machine.unwrap_or(RunEnd::Stopped),
+        Ok(()) => machine.unwrap_or(Outcome::Stopped),
     }
 }
 
 // Hands out what waits behind the output of a run that ended so, but where reading or writing has failed.
-fn hand_out<K: Sink>(end: RunEnd, gathered: &mut Gathered, out: &mut K) -> RunEnd
+fn hand_out<K: Sink>(end: Outcome, gathered: &mut Gathered, out: &mut K) -> Outcome
     ensures { HandsOut end result (K.taken out.old) (K.taken out.new) (waiting gathered.old) (K.faults out.old) (K.faults out.new) }
 {
     match end {
-        RunEnd::ReadFault | RunEnd::SinkFault => end,
+        Outcome::ReadFault | Outcome::SinkFault => end,
         _ => match gathered.flush(out) {
             Ok(()) => end,
-            Err(_) => RunEnd::SinkFault,
+            Err(_) => Outcome::SinkFault,
         },
     }
 }

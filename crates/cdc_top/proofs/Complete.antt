@@ -3,12 +3,17 @@ use Rattle.std.proofs.Common.{◌≡◌, ◌⊎◌, ℕ, zero, suc, ◌≤◌, L
 use Rattle.std.specs.Prelude.{Option, Some, None, Ok}
 use Rattle.cdc_compile.specs.Source.{IsProgramOf}
 use Rattle.cdc_prog.specs.Plain.{Program}
-use Rattle.cdc_top.specs.Answer.{Command, Run, Ask, Seq, Usage, Files, IsTold, AreTold, Answers, RunWith, RunAnswers, SeqAnswers, CheckAnswers, ListingAnswers, ReadFailed, ToolEnded}
-use Rattle.cdc_top.specs.Complete.{AllTold, AreGood, HasProgram, AllStayed, IsDone, Completes}
-use Rattle.cdc_top.specs.Report.{Answer}
+use Rattle.cdc_top.specs.Answer.{Command, Run, Ask, Seq, Usage, Files, IsTold, AreTold, Answers, ScheduleAnswers, RunAnswers, SeqAnswers, CheckAnswers, ListingAnswers, ReadFailed, ToolEnded}
+use Rattle.cdc_input.specs.Records.{records_of}
+use Rattle.cdc_sched.specs.declared.header.Header.{Header}
+use Rattle.cdc_sched.proofs.Same.{one_refusal}
+use Rattle.cdc_top.specs.Complete.{AllTold, AreGood, HasProgram, AllStayed, IsRun, IsDone, Completes}
+use Rattle.cdc_top.specs.Report.{Answer, status_of}
+use Rattle.cdc_top.specs.Schedule.{IsSchedule}
+use Rattle.cdc_top.specs.Sequential.{InputIs, IsGoodInput}
+use Rattle.cdc_top.proofs.Laws.{ample_end}
 use Rattle.cdc_top.specs.Status.{IsFinished}
 use Rattle.cdc_top.specs.declared.source.Question.TheVariants.{Check, Listing}
-use Rattle.cdc_top.specs.Doalls.{first_doall}
 use Rattle.cdc_top.proofs.One.{none_accepted, one_program}
 use Rattle.cdc_top.specs.declared.status.TheConstants.{READ_FAULT, WRITE_FAULT, OUT_OF_MEMORY}
 
@@ -39,18 +44,25 @@ none_failed (Seq program input) files before now stayed (inr failed) = stayed.1 
 none_failed Usage files before now stayed failed = failed
 
 -- ---- the answers over good files
-machine_done : (files : Files) (a : Answer) (program input schedule : List ℕ) (p : Program) → IsProgramOf files.program (Ok p) → AreGood (Run program input schedule) files → RunWith None p files a → IsDone (Run program input schedule) files a.status
-machine_done files a program input schedule p is good (inl long) = absurd (let within : length files.input ≤ 1048576 = good.1.within in omega (arith, long.0, within))
-machine_done files a program input schedule p is good (inr (inl bad)) = absurd (good.1.no_fault bad.0 bad.1.fails.0)
-machine_done files a program input schedule p is good (inr (inr (fine, inl none))) = absurd (none.0 good.2.0 good.2.1)
-machine_done files a program input schedule p is good (inr (inr (fine, inr (bound, header, same)))) = (p, bound, is, header, ap (λ (b : Answer). b.status) same)
+-- the run of a schedule that is good
+machine_done : (files : Files) (a : Answer) (p : Program) → IsProgramOf files.program (Ok p) → (h : Header) (at : ℕ) → IsSchedule files.schedule h at → InputIs (ScheduleAnswers p files.schedule) files.input a → IsGoodInput files.input → IsRun files a.status
+machine_done files a p is h at has (inl long) good = absurd (let within : length files.input ≤ 1048576 = good.within in omega (arith, long.0, within))
+machine_done files a p is h at has (inr (inl bad)) good = absurd (good.no_fault bad.0 bad.1.fails.0)
+machine_done files a p is h at has (inr (inr (fine, inl long))) good = absurd (let within : length files.schedule ≤ 16777216 = has.within in omega (arith, long.0, within))
+machine_done files a p is h at has (inr (inr (fine, inr (inl bad)))) good = absurd (one_refusal.not_both files.schedule h at bad.0 has.has bad.1.bad)
+machine_done files a p is h at has (inr (inr (fine, inr (inr (k, to, also, same))))) good = record {
+  accepted = p;
+  is_program = is;
+  header = k;
+  at = to;
+  is_schedule = also;
+  status_is = ap (λ (b : Answer). b.status) same;
+  ends = λ ample. ap (λ (b : Answer). b.status) same ∙ ap status_of (ample_end files.program p is (records_of files.input) files.schedule k to also.has.front.limits.procs ample);
+}
 
 run_done : (files : Files) (a : Answer) (program input schedule : List ℕ) → AreGood (Run program input schedule) files → RunAnswers files a → IsDone (Run program input schedule) files a.status
-run_done files a program input schedule good (inl refused) = absurd (none_accepted files.program a good.0.0 refused good.0.1.0)
-run_done files a program input schedule good (inr (accepted, is, answered)) =
-    let same : accepted ≡ good.0.0 = one_program files.program accepted good.0.0 is good.0.1.0 in
-    let serial : first_doall accepted ≡ None = ap first_doall same ∙ good.0.1.1 in
-    machine_done files a program input schedule accepted is good (subst (λ (doall : Option ℕ). RunWith doall accepted files a) serial answered)
+run_done files a program input schedule good (inl refused) = absurd (none_accepted files.program a good.0.0 refused good.0.1)
+run_done files a program input schedule good (inr (accepted, is, answered)) = machine_done files a accepted is good.2.0 good.2.1 good.2.2 answered good.1
 
 seq_done : (files : Files) (a : Answer) (program input : List ℕ) → AreGood (Seq program input) files → SeqAnswers files.program files.input a → IsDone (Seq program input) files a.status
 seq_done files a program input good (inl refused) = absurd (none_accepted files.program a good.0.0 refused good.0.1)

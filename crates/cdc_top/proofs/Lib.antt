@@ -1,8 +1,6 @@
-pub mod Digits
-pub mod Replays
 pub mod Ends
-pub mod Doalls
 pub mod Laws
+pub mod Begun
 pub mod Said
 pub mod Played
 pub mod Seqs

@@ -1,8 +1,7 @@
 -- `check`, `seq` and `run` have one answer, as a source has.
 use Rattle.std.proofs.Common.{◌≡◌, ◌≢◌, ℕ, ◌≤◌, List, [], ◌∷◌, ◌++◌, length, map, sym, ◌∙◌, ap, subst, arith, inl, inr, Result, Ok, Err, Option, Some, None}
 use Rattle.std.specs.Prelude.{codes}
-use Rattle.std.specs.Str.Parse.{digits_value}
-use Rattle.std.proofs.lemmas.List.{length-map, append_cancel_left, append_cancel_right}
+use Rattle.std.proofs.lemmas.List.{length-map}
 use Rattle.cdc_base.specs.declared.place.Place.{Place}
 use Rattle.cdc_compile.specs.declared.refusal.Refusal.{Refusal}
 use Rattle.cdc_compile.specs.declared.refusal.Refusal.TheVariants.{Memory}
@@ -17,12 +16,15 @@ use Rattle.cdc_prog.specs.Translation.{program_of, unit_of}
 use Rattle.cdc_prog.specs.Input.{Input}
 use Rattle.cdc_prog.specs.Meaning.{meaning}
 use Rattle.cdc_input.specs.Records.{records_of}
-use Rattle.cdc_top.specs.Schedule.{before_bound, after_bound}
-use Rattle.cdc_top.specs.Answer.{Files, IsHeader, IsRefusedWith, CheckAnswers, ListingAnswers, SourceAnswers, SeqAnswers, compiled_code, ScheduleAnswers, RunWith, RunAnswers, ran}
+use Rattle.cdc_sched.specs.declared.header.Header.{Header}
+use Rattle.cdc_sched.specs.Told.{Told}
+use Rattle.cdc_sched.proofs.Same.{one_header, one_refusal as one_bad_line}
+use Rattle.cdc_top.specs.Run.{told_in, played}
+use Rattle.cdc_top.specs.Schedule.{IsSchedule, header_refused}
+use Rattle.cdc_top.specs.Answer.{Files, IsRefusedWith, CheckAnswers, ListingAnswers, SourceAnswers, SeqAnswers, compiled_code, ScheduleAnswers, RunAnswers, ran}
 use Rattle.cdc_report.specs.Listing.{code_text}
 use Rattle.cdc_top.specs.declared.source.Question.{Question}
 use Rattle.cdc_top.specs.declared.source.Question.TheVariants.{Check, Listing}
-use Rattle.cdc_top.specs.Doalls.{first_doall}
 use Rattle.cdc_top.specs.Report.{Answer, answer}
 use Rattle.cdc_top.specs.Sequential.{InputIs, IsCarriedOut, IsBadInput, input_bad}
 use Rattle.cdc_top.specs.declared.status.TheConstants.{PROGRAM_REFUSED}
@@ -113,30 +115,31 @@ one_seq source input a b (inr (p, is, answered)) (inl other) = absurd (none_acce
 one_seq source input a b (inr (p, is, answered)) (inr (q, same, words)) =
     one_input (IsCarriedOut (meaning p)) input a b (λ one other. other ∙ sym one) answered (subst (λ (r : plain.Program). InputIs (IsCarriedOut (meaning r)) input b) (one_program source q p same is) words)
 
--- a schedule has one bound
-one_bound : (bytes : List ℕ) (b c : ℕ) → IsHeader bytes b → IsHeader bytes c → c ≡ b
-one_bound bytes b c is other =
-    let d = is.is_schedule in
-    let e = other.is_schedule in
-    let same : d.digits ≡ e.digits = append_cancel_right d.digits e.digits after_bound (append_cancel_left before_bound (d.digits ++ after_bound) (e.digits ++ after_bound) (sym d.bytes_are ∙ e.bytes_are)) in
-    e.is_bound.value ∙ ap (digits_value 10) (sym same) ∙ sym d.is_bound.value
+-- a schedule has one header, and one list of events behind it
+one_ran : (p : plain.Program) (records : Input) (schedule : List ℕ) (h k : Header) (at to : ℕ) → IsSchedule schedule h at → IsSchedule schedule k to → ran p records schedule k to ≡ ran p records schedule h at
+one_ran p records schedule h k at to is also =
+    let one = one_header schedule k h to at also.has is.has in
+    let told : told_in schedule k to ≡ told_in schedule k at = λ i. record { events = one.events k.procs i; bad = one.bad k.procs i } in
+    ap (λ (t : Told). played (compiled_code p) records t k) told ∙ ap (λ (l : Header). ran p records schedule l at) one.header
 
 one_schedule : (p : plain.Program) (schedule : List ℕ) (records : Input) (a b : Answer) → ScheduleAnswers p schedule records a → ScheduleAnswers p schedule records b → b ≡ a
-one_schedule p schedule records a b (inl (none, is)) (inl (neither, same)) = same ∙ sym is
-one_schedule p schedule records a b (inl (none, is)) (inr (bound, header, same)) = absurd (none bound header)
-one_schedule p schedule records a b (inr (bound, header, is)) (inl (none, same)) = absurd (none bound header)
-one_schedule p schedule records a b (inr (bound, header, is)) (inr (other, also, same)) = same ∙ ap (ran p records) (one_bound schedule bound other header also) ∙ sym is
-
-one_with : (doall : Option ℕ) (p : plain.Program) (files : Files) (a b : Answer) → RunWith doall p files a → RunWith doall p files b → b ≡ a
-one_with (Some line) p files a b is same = same ∙ sym is
-one_with None p files a b answered words = one_input (ScheduleAnswers p files.schedule) files.input a b (one_schedule p files.schedule (records_of files.input) a b) answered words
+one_schedule p schedule records a b (inl (long, is)) (inl (more, same)) = same ∙ sym is
+one_schedule p schedule records a b (inl (long, is)) (inr (inl (n, bad, same))) = absurd (let w : length schedule ≤ 16777216 = bad.within in omega (arith, long, w))
+one_schedule p schedule records a b (inl (long, is)) (inr (inr (h, at, has, same))) = absurd (let w : length schedule ≤ 16777216 = has.within in omega (arith, long, w))
+one_schedule p schedule records a b (inr (inl (n, bad, is))) (inl (long, same)) = absurd (let w : length schedule ≤ 16777216 = bad.within in omega (arith, long, w))
+one_schedule p schedule records a b (inr (inl (n, bad, is))) (inr (inl (m, worse, same))) = same ∙ ap header_refused (one_bad_line.one schedule m n worse.bad bad.bad) ∙ sym is
+one_schedule p schedule records a b (inr (inl (n, bad, is))) (inr (inr (h, at, has, same))) = absurd (one_bad_line.not_both schedule h at n has.has bad.bad)
+one_schedule p schedule records a b (inr (inr (h, at, has, is))) (inl (long, same)) = absurd (let w : length schedule ≤ 16777216 = has.within in omega (arith, long, w))
+one_schedule p schedule records a b (inr (inr (h, at, has, is))) (inr (inl (n, bad, same))) = absurd (one_bad_line.not_both schedule h at n has.has bad.bad)
+one_schedule p schedule records a b (inr (inr (h, at, has, is))) (inr (inr (k, to, also, same))) = same ∙ one_ran p records schedule h k at to has also ∙ sym is
 
 pub one_run : (files : Files) (a b : Answer) → RunAnswers files a → RunAnswers files b → b ≡ a
 one_run files a b (inl refused) (inl other) = one_refusal files.program a b refused other
 one_run files a b (inl refused) (inr (q, is, text)) = absurd (none_accepted files.program a q refused is)
 one_run files a b (inr (p, is, answered)) (inl other) = absurd (none_accepted files.program b p other is)
 one_run files a b (inr (p, is, answered)) (inr (q, same, words)) =
-    one_with (first_doall p) p files a b answered (subst (λ (r : plain.Program). RunWith (first_doall r) r files b) (one_program files.program q p same is) words)
+    one_input (ScheduleAnswers p files.schedule) files.input a b (one_schedule p files.schedule (records_of files.input) a b) answered
+    (subst (λ (r : plain.Program). InputIs (ScheduleAnswers r files.schedule) files.input b) (one_program files.program q p same is) words)
 
 -- a refusal answers each question
 pub refused_answers : (question : Question) (source : List ℕ) (a : Answer) → IsRefusedWith source a → SourceAnswers question source a

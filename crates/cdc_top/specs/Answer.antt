@@ -1,14 +1,12 @@
 -- What the tool answers to the words of a command line: bytes and a status.
-use Rattle.std.specs.Prelude.{◌≡◌, ◌≢◌, ℕ, ◌≤◌, List, [], ◌∷◌, length, Option, Some, None, Ok, Err, if◌then◌else◌, ◌==◌, ◌&&◌, Bool, false, not, codes, ◌⊎◌}
+use Rattle.std.specs.Prelude.{◌≡◌, ◌≢◌, ℕ, ◌<◌, List, [], ◌∷◌, length, Option, Some, None, Ok, Err, if◌then◌else◌, ◌==◌, ◌&&◌, Bool, false, not, codes, ◌⊎◌}
 use Rattle.std.specs.Str.{bytes_eq}
 use Rattle.cdc_base.specs.Causes.{Rose}
 use Rattle.cdc_base.specs.Outside.{grown}
-use Rattle.cdc_epoch.specs.Machine.{run}
 use Rattle.cdc_compile.specs.declared.refusal.Refusal.{Refusal}
-use Rattle.cdc_compile.specs.declared.refusal.Refusal.TheVariants.{Parse, Memory}
+use Rattle.cdc_compile.specs.declared.refusal.Refusal.TheVariants.{Memory}
 use Rattle.cdc_compile.specs.Source.{IsProgramOf}
 use Rattle.cdc_compile.specs.Texts.{accepted_text, refusal_text}
-use Rattle.cdc_tree.specs.declared.refusal.ParseRefusal.TheVariants.{NotAStatement}
 use Rattle.cdc_prog.specs.declared.program.Program.{Program}
 use Rattle.cdc_prog.specs.Plain as plain
 use Rattle.cdc_prog.specs.Translation.{program_of}
@@ -21,9 +19,11 @@ use Rattle.cdc_report.specs.Listing.{code_text}
 use Rattle.cdc_text.specs.Pieces.{GrewByFront}
 use Rattle.cdc_top.specs.declared.source.Question.{Question}
 use Rattle.cdc_top.specs.declared.source.Question.TheVariants.{Check, Listing}
-use Rattle.cdc_top.specs.Doalls.{first_doall}
-use Rattle.cdc_top.specs.Report.{Answer, answer, joined, line, printed, outcome_of, status_of}
-use Rattle.cdc_top.specs.Schedule.{IsSchedule}
+use Rattle.cdc_report.specs.End.{joined}
+use Rattle.cdc_sched.specs.declared.header.Header.{Header}
+use Rattle.cdc_top.specs.Report.{Answer, answer, line}
+use Rattle.cdc_top.specs.Run.{told_in, played}
+use Rattle.cdc_top.specs.Schedule.{IsSchedule, IsBadSchedule, schedule_too_long, header_refused}
 use Rattle.cdc_top.specs.Sequential.{InputIs, IsCarriedOut, IsGoodInput}
 use Rattle.cdc_top.specs.Status.{IsFinished}
 use Rattle.cdc_top.specs.declared.limits.TheConstants.{SCHEDULE_LIMIT}
@@ -78,26 +78,20 @@ pub record Files : Type 0 where
   pub input : List ℕ
   pub schedule : List ℕ
 
--- a schedule within its limit that has the form, with its bound
-pub record IsHeader (bytes : List ℕ) (bound : ℕ) : Type 0 where
-  pub within : length bytes ≤ SCHEDULE_LIMIT
-  pub is_schedule : IsSchedule bytes bound
-
-abbrev pub schedule_refused : Answer
-schedule_refused = answer (line (codes "refused header line 1")) INPUT_REFUSED
-
 -- the code that a program is compiled to
 abbrev pub compiled_code : plain.Program → Code
 compiled_code p = code_of p (ordinary_marks p.sites p.doalls)
 
--- a run prints its output and the lines on it, with the status of its end
-abbrev pub ran : plain.Program → Input → (bound : ℕ) → Answer
-ran p records bound = let m = run (compiled_code p) records bound in answer (printed p.texts m bound) (status_of (outcome_of m))
+-- what is answered where the program is run on the records as the schedule says
+abbrev pub ran : plain.Program → Input → (schedule : List ℕ) → Header → (at : ℕ) → Answer
+ran p records schedule h at = played (compiled_code p) records (told_in schedule h at) h
 
--- the schedule is refused, or the program is run on the records
+-- the schedule is too long, a line of its header is refused, or the program is run
 abbrev pub ScheduleAnswers : plain.Program → (schedule : List ℕ) → Input → Answer → Type 0
 ScheduleAnswers p schedule records a =
-    (((bound : ℕ) → IsHeader schedule bound → ⊥) × (a ≡ schedule_refused)) ⊎ ((bound : ℕ) × IsHeader schedule bound × (a ≡ ran p records bound))
+    ((SCHEDULE_LIMIT < length schedule) × (a ≡ schedule_too_long))
+    ⊎ (((number : ℕ) × IsBadSchedule schedule number × (a ≡ header_refused number))
+    ⊎ ((h : Header) × (at : ℕ) × IsSchedule schedule h at × (a ≡ ran p records schedule h at)))
 
 -- the first refusal of the program is answered; want of memory is no refusal
 abbrev pub IsRefusedWith : List ℕ → Answer → Type 0
@@ -119,21 +113,10 @@ SourceAnswers Listing = ListingAnswers
 abbrev pub SeqAnswers : List ℕ → List ℕ → Answer → Type 0
 SeqAnswers source input a = IsRefusedWith source a ⊎ ((program : plain.Program) × IsProgramOf source (Ok program) × InputIs (IsCarriedOut (meaning program)) input a)
 
--- the first DOALL is refused, since the machine forks nothing yet
-abbrev pub doall_refused : (line : ℕ) → Answer
-doall_refused line = answer (refusal_text (Parse (NotAStatement line))) PROGRAM_REFUSED
-
 -- or the input or the schedule is refused, or the program is run
-abbrev pub RunWith : (doall : Option ℕ) → plain.Program → Files → Answer → Type 0
-RunWith (Some line) p files a = a ≡ doall_refused line
-RunWith None p files a = InputIs (ScheduleAnswers p files.schedule) files.input a
-
 abbrev pub RunAnswers : Files → Answer → Type 0
-RunAnswers files a = IsRefusedWith files.program a ⊎ ((program : plain.Program) × IsProgramOf files.program (Ok program) × RunWith (first_doall program) program files a)
-
--- an accepted program without DOALL
-abbrev pub IsRunnable : (source : List ℕ) → plain.Program → Type 0
-IsRunnable source p = IsProgramOf source (Ok p) × (first_doall p ≡ None)
+RunAnswers files a =
+    IsRefusedWith files.program a ⊎ ((program : plain.Program) × IsProgramOf files.program (Ok program) × InputIs (ScheduleAnswers program files.schedule) files.input a)
 
 -- the answer to a command over the bytes of its files
 abbrev pub Answers : Command → Files → Answer → Type 0
@@ -160,7 +143,7 @@ InputFailed input schedule files before now = Rose (before input) (now input) �
 
 abbrev pub ReadFailed : Command → Files → (List ℕ → ℕ) → (List ℕ → ℕ) → Type 0
 ReadFailed (Run program input schedule) files before now =
-    Rose (before program) (now program) ⊎ ((accepted : plain.Program) × IsRunnable files.program accepted × InputFailed input schedule files before now)
+    Rose (before program) (now program) ⊎ ((accepted : plain.Program) × IsProgramOf files.program (Ok accepted) × InputFailed input schedule files before now)
 ReadFailed (Ask question program) files before now = Rose (before program) (now program)
 ReadFailed (Seq program input) files before now =
     Rose (before program) (now program) ⊎ ((accepted : plain.Program) × IsProgramOf files.program (Ok accepted) × Rose (before input) (now input))

@@ -5,9 +5,12 @@ use Rattle.cdc_compile.specs.Source.{IsProgramOf}
 use Rattle.cdc_input.specs.Records.{records_of}
 use Rattle.cdc_prog.specs.Meaning.{meaning}
 use Rattle.cdc_prog.specs.Plain.{Program}
-use Rattle.cdc_epoch.specs.Stands.{outcome_of_end}
-use Rattle.cdc_top.specs.Answer.{Command, Run, Ask, Seq, Usage, Files, IsHeader, IsRunnable, ran}
+use Rattle.cdc_replay.specs.Refused.{end_of}
+use Rattle.cdc_sched.specs.declared.header.Header.{Header}
+use Rattle.cdc_top.specs.Answer.{Command, Run, Ask, Seq, Usage, Files, ran}
 use Rattle.cdc_top.specs.Report.{status_of}
+use Rattle.cdc_top.specs.Run.{IsAmpleFor, told_in}
+use Rattle.cdc_top.specs.Schedule.{IsSchedule}
 use Rattle.cdc_top.specs.Sequential.{IsGoodInput}
 use Rattle.cdc_top.specs.declared.status.TheConstants.{DONE, NO_COMMAND, OUT_OF_MEMORY}
 
@@ -24,7 +27,7 @@ HasProgram source = (accepted : Program) × IsProgramOf source (Ok accepted)
 
 -- nothing of the files is refused
 abbrev pub AreGood : Command → Files → Type 0
-AreGood (Run program input schedule) files = ((accepted : Program) × IsRunnable files.program accepted) × IsGoodInput files.input × ((bound : ℕ) × IsHeader files.schedule bound)
+AreGood (Run program input schedule) files = HasProgram files.program × IsGoodInput files.input × ((h : Header) × (at : ℕ) × IsSchedule files.schedule h at)
 AreGood (Ask question program) files = HasProgram files.program
 AreGood (Seq program input) files = HasProgram files.program × IsGoodInput files.input
 AreGood Usage files = Unit {0}
@@ -41,13 +44,22 @@ AllStayed (Ask question program) before now = Stayed (before program) (now progr
 AllStayed (Seq program input) before now = Stayed (before program) (now program) × Stayed (before input) (now input)
 AllStayed Usage before now = Unit {0}
 
+-- the status is that of the run; where the schedule is ample for the program, it is that of the program on one memory
+pub record IsRun (files : Files) (status : ℕ) : Type 0 where
+  pub accepted : Program
+  pub is_program : IsProgramOf files.program (Ok accepted)
+  pub header : Header
+  pub at : ℕ
+  pub is_schedule : IsSchedule files.schedule header at
+  pub status_is : status ≡ (ran accepted (records_of files.input) files.schedule header at).status
+  pub ends : IsAmpleFor accepted (records_of files.input) (told_in files.schedule header at) header → status ≡ status_of (end_of (meaning accepted (records_of files.input)).end)
+
 -- the status says that the command is done: how the run or the program ended, or that the program is accepted or listed
 abbrev pub IsDone : Command → Files → (status : ℕ) → Type 0
-IsDone (Run program input schedule) files status =
-    (accepted : Program) × (bound : ℕ) × IsProgramOf files.program (Ok accepted) × IsHeader files.schedule bound × (status ≡ (ran accepted (records_of files.input) bound).status)
+IsDone (Run program input schedule) files status = IsRun files status
 IsDone (Ask question program) files status = status ≡ DONE
 IsDone (Seq program input) files status =
-    (accepted : Program) × IsProgramOf files.program (Ok accepted) × (status ≡ status_of (outcome_of_end (meaning accepted (records_of files.input)).end))
+    (accepted : Program) × IsProgramOf files.program (Ok accepted) × (status ≡ status_of (end_of (meaning accepted (records_of files.input)).end))
 IsDone Usage files status = status ≡ NO_COMMAND
 
 abbrev pub Completes : Command → (told : List ℕ → Option (List ℕ)) → (status : ℕ) → (before now : List ℕ → ℕ) → (sink_before sink_now : ℕ) → Type 0

@@ -1,10 +1,9 @@
 pub mod Answer
 pub mod Chosen
 pub mod Complete
-pub mod Doalls
 pub mod Laws
-pub mod Replay
 pub mod Report
+pub mod Run
 pub mod Schedule
 pub mod Sequential
 pub mod Status

@@ -6,8 +6,10 @@ use Rattle.cdc_input.specs.Records.{records_of}
 use Rattle.cdc_input.specs.Refusals.{HasNoFault, Fails}
 use Rattle.cdc_prog.specs.Meaning.{Meaning}
 use Rattle.cdc_prog.specs.Input.{Input}
-use Rattle.cdc_top.specs.Report.{Answer, answer, joined, number, line_feed, line, line_end, end_line, status_of}
-use Rattle.cdc_epoch.specs.Stands.{outcome_of_end}
+use Rattle.cdc_report.specs.Listing.{number}
+use Rattle.cdc_report.specs.End.{joined, line_feed, end_line}
+use Rattle.cdc_top.specs.Report.{Answer, answer, line, line_end, status_of}
+use Rattle.cdc_replay.specs.Refused.{end_of}
 use Rattle.cdc_top.specs.declared.limits.TheConstants.{INPUT_LIMIT}
 use Rattle.cdc_top.specs.declared.status.TheConstants.{INPUT_REFUSED}
 
@@ -29,7 +31,7 @@ input_bad place = answer (joined (codes "refused input at " ∷ number place.lin
 
 -- the output, the line end that it may lack, and the line on the end, with the status of that end
 abbrev pub carried_out : Meaning → Answer
-carried_out m = answer (m.bytes ++ (line_end m.bytes ++ end_line (outcome_of_end m.end))) (status_of (outcome_of_end m.end))
+carried_out m = answer (m.bytes ++ (line_end m.bytes ++ end_line (end_of m.end))) (status_of (end_of m.end))
 
 -- the input is refused, or its records are answered
 abbrev pub InputIs : (answers : Input → Answer → Type 0) → List ℕ → Answer → Type 0

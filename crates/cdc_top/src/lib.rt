@@ -2,13 +2,11 @@
 #![tactic(auto)]
 
 mod check;
-mod doall;
 mod input;
 mod limits;
-mod replay;
+mod play;
 mod report;
 mod run;
-mod schedule;
 mod seq;
 mod source;
 mod status;

@@ -1,97 +1,19 @@
-// The lines that `run` prints behind the program's output.
-ghost use Rattle.std.specs.Prelude.{◌≡◌, [], ◌∷◌, ◌++◌, if◌then◌else◌};
+// The lines that `run` and `seq` print behind the program's output.
+ghost use Rattle.std.specs.Prelude.{◌≡◌, ◌≢◌, [], ◌∷◌, ◌++◌, if◌then◌else◌};
 ghost use Rattle.cdc_text.specs.Pieces.{Wrote};
-ghost use Rattle.cdc_epoch.specs.Stands.{counts_of};
+ghost use Rattle.cdc_epoch.specs.Ties.{counts_of};
+ghost use Rattle.cdc_epoch.specs.declared.outcome.Outcome.TheVariants.{ReadFault, SinkFault as SinkFailed};
+ghost use Rattle.cdc_report.specs.End.{HasEnded, end_line};
 ghost use Rattle.cdc_top.specs.Status.{IsFinished};
-ghost use Rattle.cdc_top.specs.Report.{kind_text, end_line, event_lines, count_line, report, status_of};
+ghost use Rattle.cdc_top.specs.Report.{bad_event_line, report, status_of};
 
-use crate::status::{DONE, FAULTED, STOPPED};
+use crate::status::{DONE, FAULTED, INPUT_REFUSED, READ_FAULT, STOPPED, WRITE_FAULT};
 use cdc_base::{Sink, SinkFault};
-use cdc_epoch::{Counts, Machine, Outcome};
-use cdc_prog::FaultKind;
+use cdc_epoch::{Engine, Outcome};
+use cdc_fabric::Fabric;
+use cdc_replay::Played;
+use cdc_report::{write_end, write_end_line};
 use cdc_text::{Text, write_texts, write_words};
-
-fn kind_words(kind: FaultKind) -> &'static [u8]
-    ensures { result.now ≡ kind_text kind }
-{
-    match kind {
-        FaultKind::Overflow => b"overflow",
-        FaultKind::ZeroDivisor => b"zero divisor",
-        FaultKind::Subscript => b"subscript",
-        FaultKind::ZeroStep => b"zero step",
-        FaultKind::TripTooLarge => b"trip too large",
-        FaultKind::InputEnded => b"input ended",
-    }
-}
-
-fn write_fault<K: Sink>(out: &mut K, kind: FaultKind, line: u32) -> Result<(), SinkFault>
-    ensures { Wrote (end_line (Outcome.Fault kind line)) result (K.taken out.old) (K.taken out.new) (K.faults out.old) (K.faults out.new) }
-{
-    write_texts(
-        out,
-        &[
-            Text::Words(b"= end fault "),
-            Text::Words(kind_words(kind)),
-            Text::Words(b" at line "),
-            Text::Number(line as u64),
-            Text::Words(b"\n"),
-        ],
-    )
-}
-
-fn write_end<K: Sink>(out: &mut K, outcome: Outcome) -> Result<(), SinkFault>
-    ensures { Wrote (end_line outcome) result (K.taken out.old) (K.taken out.new) (K.faults out.old) (K.faults out.new) }
-{
-    match outcome {
-        Outcome::Done => write_words(out, b"= end done\n"),
-        Outcome::Fault(kind, line) => write_fault(out, kind, line),
-        Outcome::Stopped => write_words(out, b"= end stopped\n"),
-    }
-}
-
-fn write_events<K: Sink>(out: &mut K, events: u64, bound: u64) -> Result<(), SinkFault>
-    ensures { Wrote (event_lines events bound) result (K.taken out.old) (K.taken out.new) (K.faults out.old) (K.faults out.new) }
-{
-    write_texts(
-        out,
-        &[
-            Text::Words(b"= boundaries "),
-            Text::Number(0),
-            Text::Words(b"\n= events "),
-            Text::Number(events),
-            Text::Words(b" of "),
-            Text::Number(bound),
-            Text::Words(b"\n= idle "),
-            Text::Number(0),
-            Text::Words(b"\n"),
-        ],
-    )
-}
-
-fn write_counts<K: Sink>(out: &mut K, counts: Counts) -> Result<(), SinkFault>
-    ensures { Wrote (count_line counts) result (K.taken out.old) (K.taken out.new) (K.faults out.old) (K.faults out.new) }
-{
-    write_texts(
-        out,
-        &[
-            Text::Words(b"= p0 steps "),
-            Text::Number(counts.steps),
-            Text::Words(b" reads "),
-            Text::Number(counts.reads),
-            Text::Words(b" ordinary "),
-            Text::Number(counts.ordinary),
-            Text::Words(b" marked "),
-            Text::Number(counts.marked),
-            Text::Words(b" misses "),
-            Text::Number(counts.misses),
-            Text::Words(b" evicted "),
-            Text::Number(counts.evicted),
-            Text::Words(b" invalidated "),
-            Text::Number(counts.invalidated),
-            Text::Words(b"\n"),
-        ],
-    )
-}
 
 // The line end that an output may lack.
 fn close_line<K: Sink>(out: &mut K, is_open: bool) -> Result<(), SinkFault>
@@ -104,60 +26,78 @@ fn close_line<K: Sink>(out: &mut K, is_open: bool) -> Result<(), SinkFault>
 }
 
 /// Writes the line end that the output may lack, and then how it ended.
-pub fn write_closing<K: Sink>(out: &mut K, is_open: bool, outcome: Outcome) -> Result<(), SinkFault>
-    ensures { Wrote ((if is_open then 10 ∷ [] else []) ++ end_line outcome) result (K.taken out.old) (K.taken out.new) (K.faults out.old) (K.faults out.new) }
+pub fn write_closing<K: Sink>(out: &mut K, is_open: bool, end: Outcome) -> Result<(), SinkFault>
+    requires { HasEnded end }
+    ensures { Wrote ((if is_open then 10 ∷ [] else []) ++ end_line end) result (K.taken out.old) (K.taken out.new) (K.faults out.old) (K.faults out.new) }
 {
     close_line(out, is_open)?;
-    write_end(out, outcome)
+    write_end_line(end, out)
 }
 
-fn write_facts<K: Sink>(
-    out: &mut K,
-    events: u64,
-    bound: u64,
-    counts: Counts,
-) -> Result<(), SinkFault>
-    ensures { Wrote (event_lines events bound ++ count_line counts) result (K.taken out.old) (K.taken out.new) (K.faults out.old) (K.faults out.new) }
+fn write_bad_event<K: Sink>(out: &mut K, line: u32) -> Result<(), SinkFault>
+    ensures { Wrote (bad_event_line line) result (K.taken out.old) (K.taken out.new) (K.faults out.old) (K.faults out.new) }
 {
-    write_events(out, events, bound)?;
-    write_counts(out, counts)
+    write_texts(
+        out,
+        &[
+            Text::Words(b"= bad event line "),
+            Text::Number(line as u64),
+            Text::Words(b"\n"),
+        ],
+    )
 }
 
-fn write_lines<K: Sink>(
+// The lines on a run, or on the event that is none.
+fn write_lines<F: Fabric, K: Sink>(
     out: &mut K,
-    outcome: Outcome,
-    events: u64,
+    machine: &Engine<F>,
+    procs: u32,
+    played: Played,
     bound: u64,
-    counts: Counts,
 ) -> Result<(), SinkFault>
-    ensures { Wrote (report outcome events bound counts) result (K.taken out.old) (K.taken out.new) (K.faults out.old) (K.faults out.new) }
+    requires procs { procs ≡ F.procs machine.now.side }
+    requires read { played.end ≢ ReadFault }
+    requires written { played.end ≢ SinkFailed }
+    ensures { Wrote (report played.end machine.now.boundaries played.tally bound (counts_of F.Fabric machine.now) procs) result
+        (K.taken out.old) (K.taken out.new) (K.faults out.old) (K.faults out.new) }
 {
-    write_end(out, outcome)?;
-    write_facts(out, events, bound, counts)
+    match played.end {
+        Outcome::BadEvent(line) => write_bad_event(out, line),
+        _ => write_end(machine, procs, played.end, played.tally, bound, out),
+    }
 }
 
-/// Writes the line end that the output may lack, and then the lines on the run.
-pub fn write_report<K: Sink>(
+/// Writes the line end that the output may lack, and then the lines on the run: how it ended and what was counted, of
+/// each processor too, or which line of the schedule is no event. `bound` is the number of events that might be applied.
+pub fn write_report<F: Fabric, K: Sink>(
     out: &mut K,
-    is_open: bool,
-    outcome: Outcome,
-    machine: &Machine,
+    machine: &Engine<F>,
+    procs: u32,
+    played: Played,
     bound: u64,
 ) -> Result<(), SinkFault>
-    ensures { Wrote ((if is_open then 10 ∷ [] else []) ++ report outcome machine.now.events bound (counts_of machine.now)) result (K.taken out.old) (K.taken out.new) (K.faults out.old) (K.faults out.new) }
+    requires procs { procs ≡ F.procs machine.now.side }
+    requires read { played.end ≢ ReadFault }
+    requires written { played.end ≢ SinkFailed }
+    ensures { Wrote ((if played.is_open then 10 ∷ [] else []) ++ report played.end machine.now.boundaries played.tally bound (counts_of F.Fabric machine.now) procs) result
+        (K.taken out.old) (K.taken out.new) (K.faults out.old) (K.faults out.new) }
 {
-    close_line(out, is_open)?;
-    write_lines(out, outcome, machine.events(), bound, machine.counts())
+    close_line(out, played.is_open)?;
+    write_lines(out, machine, procs, played, bound)
 }
 
 /// The status that a run ends with.
-pub fn status(outcome: Outcome) -> u8
-    ensures value { result ≡ status_of outcome }
-    ensures finished { IsFinished result }
+pub fn status(end: Outcome) -> u8
+    ensures value { result ≡ status_of end }
+    ensures finished { end ≢ ReadFault → end ≢ SinkFailed → IsFinished result }
+    ensures ended { HasEnded end → IsFinished result }
 {
-    match outcome {
+    match end {
         Outcome::Done => DONE,
         Outcome::Fault(_, _) => FAULTED,
         Outcome::Stopped => STOPPED,
+        Outcome::BadEvent(_) => INPUT_REFUSED,
+        Outcome::ReadFault => READ_FAULT,
+        Outcome::SinkFault => WRITE_FAULT,
     }
 }

@@ -1,32 +1,28 @@
 // The command `run`: a program is carried out by the machine, as its schedule says.
-ghost use Rattle.std.specs.Prelude.{◌≡◌, ◌≤◌, ℕ, List as Items, length, IfOk};
+ghost use Rattle.std.specs.Prelude.{◌≡◌, ◌≤◌, ℕ, List as Items, length, vec_len, Ok as Accepts};
 ghost use Rattle.cdc_base.specs.Causes.{Rose};
-ghost use Rattle.cdc_epoch.specs.Machine.{run};
+ghost use Rattle.cdc_compile.specs.Source.{IsProgramOf};
 ghost use Rattle.cdc_prog.specs.Plain as plain;
 ghost use Rattle.cdc_prog.specs.Translation.{program_of};
-ghost use Rattle.cdc_text.specs.Pieces.{Wrote};
-ghost use Rattle.cdc_top.specs.Answer.{Run, RunAnswers, ScheduleAnswers, InputFailed, IsRunnable, IsTold, StepEnded, ToolEnded, Said, SaidOneOf, ran, compiled_code};
-ghost use Rattle.cdc_top.specs.Replay.{CanRun, Ran};
-ghost use Rattle.cdc_top.specs.Report.{answer, printed, outcome_of};
+ghost use Rattle.cdc_sched.specs.Headers.{bad_number};
+ghost use Rattle.cdc_top.specs.Answer.{Run, RunAnswers, ScheduleAnswers, InputFailed, IsTold, StepEnded, ToolEnded, Said, SaidOneOf, compiled_code};
+ghost use Rattle.cdc_top.specs.Report.{answer};
+ghost use Rattle.cdc_top.specs.Schedule.{header_refused};
 ghost use Rattle.cdc_top.specs.Sequential.{InputIs, IsGoodInput};
 ghost use Rattle.cdc_top.specs.Status.{IsFinished};
 
 use crate::check::say_refused;
-use crate::doall::first_doall;
 use crate::input::{say_bad_input, say_long_input};
 use crate::limits::{INPUT_LIMIT, SCHEDULE_LIMIT};
-use crate::replay::replay;
-use crate::report::{status, write_report};
-use crate::schedule::read_schedule;
+use crate::play::{Loaded, run_events};
 use crate::status::{INPUT_REFUSED, OUT_OF_MEMORY, READ_FAULT, WRITE_FAULT};
-use cdc_base::{Gathered, ReadRefusal, Sink, SinkFault, Store, read_all};
+use cdc_base::{ReadRefusal, Sink, Store, read_all};
 use cdc_check::CheckRefusal;
 use cdc_compile::{Compiled, Refusal, compile};
-use cdc_epoch::{Machine, Outcome};
 use cdc_input::{InputRecords, InputRefusal, records};
 use cdc_prog::{Kind, limit};
-use cdc_text::write_words;
-use cdc_tree::ParseRefusal;
+use cdc_sched::{HeaderRefusal, Listed, read_header};
+use cdc_text::{Text, write_texts, write_words};
 use std::alloc::Global;
 
 /// Writes a text, and ends with this status.
@@ -40,39 +36,45 @@ pub fn say<K: Sink>(out: &mut K, text: &[u8], status: u8) -> u8
     }
 }
 
-// Runs the machine and writes what it prints, and the lines on the run. How the run ended.
-fn play_out<K: Sink>(machine: &mut Machine, bound: u64, out: &mut K) -> Result<Outcome, SinkFault>
-    requires first { Ran machine.old.code machine.old.records.records 0 machine.old }
-    requires can { CanRun machine.old.code machine.old.records.records }
-    ensures outcome { IfOk result (λ outcome. outcome ≡ outcome_of (run machine.old.code machine.old.records.records bound)) }
-    ensures wrote { Wrote (printed machine.old.code.texts (run machine.old.code machine.old.records.records bound) bound) result (K.taken out.old) (K.taken out.new) (K.faults out.old) (K.faults out.new) }
+// Tells which line of a schedule does not fit its place in the header.
+fn say_bad_header<K: Sink>(refusal: HeaderRefusal, out: &mut K) -> u8
+    ensures { Said (header_refused (bad_number refusal)) result (K.taken out.old) (K.taken out.new) (K.faults out.old) (K.faults out.new) }
 {
-    let mut gathered = Gathered::new();
-    let is_open = replay(machine, bound, &mut gathered, out)?;
-    gathered.flush(out)?;
-    let outcome = machine.ended().unwrap_or(Outcome::Stopped);
-    write_report(out, is_open, outcome, machine, bound)?;
-    Ok(outcome)
+    let HeaderRefusal::BadHeader(line) = refusal;
+    let texts = [
+        Text::Words(b"refused header line "),
+        Text::Number(line as u64),
+        Text::Words(b"\n"),
+    ];
+    match write_texts(out, &texts) {
+        Ok(()) => INPUT_REFUSED,
+        Err(_) => WRITE_FAULT,
+    }
 }
 
-// Runs the code of a program on its records, with a bound on the events.
-fn run_machine<K: Sink>(
+// Runs the program as the bytes of its schedule say.
+fn run_bytes<K: Sink>(
     alloc: Global,
     compiled: Compiled,
     records: InputRecords,
-    bound: u64,
+    schedule: Vec<u8>,
     out: &mut K,
 ) -> u8
-    requires runnable { (source : Items ℕ) × IsRunnable source (program_of compiled.program) }
+    requires accepted { (source : Items ℕ) × IsProgramOf source (Accepts (program_of compiled.program)) }
     requires code { compiled.code ≡ compiled_code (program_of compiled.program) }
-    ensures { SaidOneOf (λ a. a ≡ ran (program_of compiled.program) records.records bound) result (K.taken out.old) (K.taken out.new) (K.faults out.old) (K.faults out.new) }
+    requires within { vec_len schedule ≤ SCHEDULE_LIMIT }
+    ensures { SaidOneOf (ScheduleAnswers (program_of compiled.program) schedule.items records.records) result (K.taken out.old) (K.taken out.new) (K.faults out.old) (K.faults out.new) }
 {
-    let Ok(mut machine) = Machine::prepare(alloc, compiled.code, records) else {
-        return OUT_OF_MEMORY;
-    };
-    match play_out(&mut machine, bound, out) {
-        Ok(outcome) => status(outcome),
-        Err(_) => WRITE_FAULT,
+    match read_header(&schedule) {
+        Err(refusal) => say_bad_header(refusal, out),
+        Ok((header, at)) => {
+            let events = Listed::new(schedule, at, header.procs);
+            let loaded = Loaded {
+                code: compiled.code,
+                records,
+            };
+            run_events(alloc, loaded, header, events, out)
+        }
     }
 }
 
@@ -85,7 +87,7 @@ fn run_schedule<S: Store, K: Sink>(
     store: &mut S,
     out: &mut K,
 ) -> u8
-    requires runnable { (source : Items ℕ) × IsRunnable source (program_of compiled.program) }
+    requires accepted { (source : Items ℕ) × IsProgramOf source (Accepts (program_of compiled.program)) }
     requires code { compiled.code ≡ compiled_code (program_of compiled.program) }
     ensures { StepEnded (λ files. IsTold (S.told store.old schedule.now) files.schedule) (λ files a. ScheduleAnswers (program_of compiled.program) files.schedule records.records a)
         (λ files. Rose (S.faults store.old schedule.now) (S.faults store.new schedule.now)) result
@@ -94,11 +96,12 @@ fn run_schedule<S: Store, K: Sink>(
     match read_all(alloc, store, schedule, SCHEDULE_LIMIT) {
         Err(ReadRefusal::Memory) => OUT_OF_MEMORY,
         Err(ReadRefusal::Failed) => READ_FAULT,
-        Err(ReadRefusal::TooLong) => say(out, b"refused header line 1\n", INPUT_REFUSED),
-        Ok(bytes) => match read_schedule(&bytes) {
-            None => say(out, b"refused header line 1\n", INPUT_REFUSED),
-            Some(bound) => run_machine(alloc, compiled, records, bound, out),
-        },
+        Err(ReadRefusal::TooLong) => say(
+            out,
+            b"refused schedule over 16777216 bytes\n",
+            INPUT_REFUSED,
+        ),
+        Ok(bytes) => run_bytes(alloc, compiled, records, bytes, out),
     }
 }
 
@@ -111,7 +114,7 @@ fn run_input<S: Store, K: Sink>(
     store: &mut S,
     out: &mut K,
 ) -> u8
-    requires runnable { (source : Items ℕ) × IsRunnable source (program_of compiled.program) }
+    requires accepted { (source : Items ℕ) × IsProgramOf source (Accepts (program_of compiled.program)) }
     requires code { compiled.code ≡ compiled_code (program_of compiled.program) }
     requires within { length input.now ≤ INPUT_LIMIT }
     ensures { StepEnded (λ files. IsTold (S.told store.old schedule.now) files.schedule) (λ files a. InputIs (ScheduleAnswers (program_of compiled.program) files.schedule) input.now a)
@@ -134,7 +137,7 @@ fn run_compiled<S: Store, K: Sink>(
     store: &mut S,
     out: &mut K,
 ) -> u8
-    requires runnable { (source : Items ℕ) × IsRunnable source (program_of compiled.program) }
+    requires accepted { (source : Items ℕ) × IsProgramOf source (Accepts (program_of compiled.program)) }
     requires code { compiled.code ≡ compiled_code (program_of compiled.program) }
     ensures { StepEnded (λ files. IsTold (S.told store.old input.now) files.input × IsTold (S.told store.old schedule.now) files.schedule) (λ files a. InputIs (ScheduleAnswers (program_of compiled.program) files.schedule) files.input a)
         (λ files. InputFailed input.now schedule.now files (S.faults store.old) (S.faults store.new)) result
@@ -158,14 +161,11 @@ fn run_source<S: Store, K: Sink>(
     out: &mut K,
 ) -> u8
     ensures { StepEnded (λ files. (source.now ≡ files.program) × IsTold (S.told store.old input.now) files.input × IsTold (S.told store.old schedule.now) files.schedule) RunAnswers
-        (λ files. (p : plain.Program) × IsRunnable files.program p × InputFailed input.now schedule.now files (S.faults store.old) (S.faults store.new)) result
+        (λ files. (p : plain.Program) × IsProgramOf files.program (Accepts p) × InputFailed input.now schedule.now files (S.faults store.old) (S.faults store.new)) result
         (K.taken out.old) (K.taken out.new) (S.faults store.old) (S.faults store.new) (K.faults out.old) (K.faults out.new) }
 {
     match compile(alloc, source) {
-        Ok(compiled) => match first_doall(&compiled.program) {
-            None => run_compiled(alloc, compiled, input, schedule, store, out),
-            Some(line) => say_refused(Refusal::Parse(ParseRefusal::NotAStatement(line)), out),
-        },
+        Ok(compiled) => run_compiled(alloc, compiled, input, schedule, store, out),
         Err(Refusal::Memory) => OUT_OF_MEMORY,
         Err(refusal) => say_refused(refusal, out),
     }

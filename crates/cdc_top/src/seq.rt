@@ -7,7 +7,8 @@ ghost use Rattle.cdc_prog.specs.Plain as plain;
 ghost use Rattle.cdc_prog.specs.Resolved.{IsResolved, HasNoCall};
 ghost use Rattle.cdc_prog.specs.Translation.{program_of};
 ghost use Rattle.cdc_top.specs.Answer.{Seq, SeqAnswers, IsTold, StepEnded, ToolEnded, Said, SaidOneOf};
-ghost use Rattle.cdc_top.specs.Report.{answer, end_line, status_of};
+ghost use Rattle.cdc_report.specs.End.{HasEnded, end_line};
+ghost use Rattle.cdc_top.specs.Report.{answer, status_of};
 ghost use Rattle.cdc_top.specs.Sequential.{InputIs, IsCarriedOut, carried_out};
 
 use crate::check::say_refused;
@@ -25,12 +26,13 @@ use cdc_prog::{Kind, Program, limit};
 use std::alloc::Global;
 
 // Writes the line end that an output may lack, and how the program ended.
-fn close<K: Sink>(is_open: bool, outcome: Outcome, out: &mut K) -> u8
+fn close<K: Sink>(is_open: bool, end: Outcome, out: &mut K) -> u8
+    requires { HasEnded end }
     ensures written { result ≢ OUT_OF_MEMORY }
-    ensures said { Said (answer ((if is_open then 10 ∷ [] else []) ++ end_line outcome) (status_of outcome)) result (K.taken out.old) (K.taken out.new) (K.faults out.old) (K.faults out.new) }
+    ensures said { Said (answer ((if is_open then 10 ∷ [] else []) ++ end_line end) (status_of end)) result (K.taken out.old) (K.taken out.new) (K.faults out.old) (K.faults out.new) }
 {
-    match write_closing(out, is_open, outcome) {
-        Ok(()) => status(outcome),
+    match write_closing(out, is_open, end) {
+        Ok(()) => status(end),
         Err(_) => WRITE_FAULT,
     }
 }

@@ -55,6 +55,32 @@ const READS: &str = "PROGRAM RD\nREAD *, I, J\nREAD *, K\nPRINT *, I, J, K\nREAD
 const READS_FAULT: &str =
     "1 2 3\n= end fault input ended at line 5\n= boundaries 0\n= events 19 of 100\n= idle 0\n= p0 steps 18 reads 3 ordinary 0 marked 0 misses 3 evicted 0 invalidated 0\n";
 
+const CROWDED: &str =
+    "cdc 1\nscheme direct\nprocs 33\ncache 16 1024 8\nbound 100\ntail rr\nevents\n";
+
+const UNFINISHED: &str = "cdc 1\nscheme direct\nprocs 1\ncache 1 1 1\nbound 100\ntail rr\n";
+
+const BAD_EVENT: &str =
+    "cdc 1\nscheme direct\nprocs 1\ncache 1 1 1\nbound 100\ntail rr\nevents\nnext 0 11\njump 0\n";
+
+const CONFLICT: &str = "PROGRAM C\nINTEGER A(10)\nDOALL I = 1, 9\nA(I) = A(I + 1)\nEND DOALL\nEND\n";
+
+// A DOALL without iterations has two boundaries.
+const NO_TURNS: &str = "PROGRAM ZERO\nDOALL I = 5, 4\nEND DOALL\nPRINT *, 'x'\nEND\n";
+
+const NO_TURNS_DONE: &str =
+    "x\n= end done\n= boundaries 2\n= events 11 of 100\n= idle 0\n= p0 steps 7 reads 0 ordinary 0 marked 0 misses 0 evicted 0 invalidated 0\n";
+
+// Iteration 3 faults before iteration 1 does; the least one is told, where its epoch is closed.
+const LEAST: &str =
+    "PROGRAM LEAST\nINTEGER A(4)\nPRINT *, 'a'\nDOALL I = 1, 4\nIF (I == 2) A(I + 9) = 1\nIF (I == 4) A(I) = 9223372036854775807 + I\nEND DOALL\nEND\n";
+
+const TWO: &str =
+    "cdc 1\nscheme direct\nprocs 2\ncache 1 1 1\nbound 1000\ntail rr\nevents\nnext 0 8\ntake 1 3\nstep 1 13\n";
+
+const LEAST_FAULT: &str =
+    "a\n= end fault subscript at line 5\n= boundaries 1\n= events 61 of 1000\n= idle 9\n= p0 steps 15 reads 0 ordinary 0 marked 0 misses 0 evicted 0 invalidated 0\n= p1 steps 30 reads 0 ordinary 0 marked 0 misses 0 evicted 0 invalidated 0\n";
+
 const USAGE: &str =
     "usage: cdcc run PROG INPUT SCHED\n       cdcc check PROG\n       cdcc marks PROG\n       cdcc code PROG\n       cdcc seq PROG INPUT\n       cdcc bench N\n";
 
@@ -121,15 +147,16 @@ fn files_are_answered(rt: HostRuntime) -> Result<(), Fail> {
             3,
             PROGRAM_REFUSED,
         ),
-        (
-            ["PROGRAM Z\nDOALL I = 5, 4\nEND DOALL\nEND\n", "x", ""],
-            3,
-            "refused NotAStatement at line 2\n",
-        ),
         ([ONE, "x", ""], 4, INPUT_REFUSED),
         ([ONE, "1", ""], 4, SCHEDULE_REFUSED),
         ([ONE, "", ""], 4, SCHEDULE_REFUSED),
-        ([ONE, "", LONGER], 4, SCHEDULE_REFUSED),
+        ([ONE, "", LONGER], 4, "refused header line 5\n"),
+        ([ONE, "", CROWDED], 4, "refused header line 4\n"),
+        ([ONE, "", UNFINISHED], 4, "refused header line 7\n"),
+        ([ONE, "", BAD_EVENT], 4, "6\n= bad event line 9\n"),
+        ([NO_TURNS, "", HEADER], 0, NO_TURNS_DONE),
+        ([LEAST, "", TWO], 1, LEAST_FAULT),
+        ([CONFLICT, "x", ""], 3, "refused Conflict at 4:8 and 4:1\n"),
     ] {
         let files = files_of(rt.alloc(), files)?;
         let mut store = MemStore::new(rt.alloc(), files, Vec::new(rt.alloc()))?;
@@ -137,6 +164,33 @@ fn files_are_answered(rt: HostRuntime) -> Result<(), Fail> {
         let got = run_tool(rt.alloc(), &words, &mut store, &mut sink);
         assert_eq!(rt; got, status, "{text}");
         assert_eq!(rt; sink.bytes(), text.as_bytes(), "{text}");
+    }
+    Ok(())
+}
+
+// Squares of three iterations, and their sum.
+const SQUARES: &str =
+    "PROGRAM Q\nINTEGER A(3)\nDOALL I = 1, 3\nA(I) = I * I\nEND DOALL\nPRINT *, A(1) + A(2) + A(3)\nEND\n";
+
+// Whatever the processors do, the output is the sequential one.
+#[test]
+fn orders_of_events_give_one_output(rt: HostRuntime) -> Result<(), Fail> {
+    let words = split_words(rt.alloc(), RUN)?;
+    for events in [
+        "tail rr\nevents\n",
+        "tail random 1\nevents\n",
+        "tail random 20261201\nevents\n",
+        "tail rr\nevents\nnext 2 30\ntake 0 2\ntake 1 1\ntake 2 0\nstep 1 4\nstep 2 9\nstep 0 30\n",
+        "tail rr\nevents\nnext 1 40\n",
+        "tail rr\nevents\ntake 2 0\nstep 2 40\ntake 0 0\ntake 1 0\ntake 0 1\nevict 2 1\nstep 0\nstep 1\nstep 0\nstep 1\n",
+    ] {
+        let schedule = format!(in rt.alloc(); "cdc 1\nscheme direct\nprocs 3\ncache 1 1 1\nbound 1000\n{events}")?;
+        let files = files_of(rt.alloc(), [SQUARES, "", schedule.as_str()])?;
+        let mut store = MemStore::new(rt.alloc(), files, Vec::new(rt.alloc()))?;
+        let mut sink = MemSink::new(rt.alloc(), 1000, Vec::new(rt.alloc()))?;
+        let got = run_tool(rt.alloc(), &words, &mut store, &mut sink);
+        assert_eq!(rt; got, 0, "{events}");
+        assert!(rt; sink.bytes().starts_with(b"14\n= end done\n= boundaries 2\n"), "{events}");
     }
     Ok(())
 }

@@ -3,7 +3,7 @@ ghost use Rattle.std.specs.Prelude.{◌≡◌, ℕ, List, map, string_bytes};
 ghost use Rattle.cdc_top.specs.Answer.{run_of, question_of, ask_of, seq_of, command_of, is_name, ToolEnded};
 ghost use Rattle.cdc_top.specs.Chosen.{chosen};
 ghost use Rattle.cdc_top.specs.Complete.{Completes};
-ghost use Rattle.cdc_top.specs.Laws.{MeansTheSource, HitsGiveMemory};
+ghost use Rattle.cdc_top.specs.Laws.{MeansTheSource, NoReadHits};
 
 use crate::run::{run_files, say};
 use crate::seq::seq_files;
@@ -154,7 +154,7 @@ pub fn run_tool<S: Store, K: Sink>(
     ensures bytes_status_and_causes { ToolEnded (command_of (map string_bytes words.now.items)) (S.told store.old) result
         (K.taken out.old) (K.taken out.new) (S.faults store.old) (S.faults store.new) (K.faults out.old) (K.faults out.new) }
     ensures meaning { MeansTheSource }
-    ensures hits { HitsGiveMemory }
+    ensures hits { NoReadHits }
     ensures completeness { Completes (command_of (map string_bytes words.now.items)) (S.told store.old) result
         (S.faults store.old) (S.faults store.new) (K.faults out.old) (K.faults out.new) }
 {

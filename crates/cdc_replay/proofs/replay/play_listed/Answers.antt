@@ -3,7 +3,7 @@ use Rattle.cdc_sched.specs.declared.event.Event.{Event}
 use Rattle.cdc_sched.specs.Told.{Gives}
 use Rattle.std.proofs.Common.{◌≡◌, refl, sym, ◌∙◌, subst, ◌∷◌, Ok, Err, Bool, true, false}
 use Rattle.cdc_base.specs.Gathered.{waiting}
-use Rattle.cdc_replay.specs.declared.tally.RunEnd.{RunEnd}
+use Rattle.cdc_epoch.specs.declared.outcome.Outcome.{Outcome}
 use Rattle.cdc_replay.specs.Replays.{ListedEnd}
 use Rattle.cdc_replay.proofs.Reading.{starts, takes_on, begins_on, reads_all, refused_there}
 use Rattle.cdc_replay.proofs.replay.play_listed.Goals as goal
@@ -26,7 +26,7 @@ loop-refusal-init g c = record {
 pub returns-in-Err-clause-plays : goal.returns-in-Err-clause-plays
 returns-in-Err-clause-plays g c = λ o applied h.
     let at = c.loop-refusal.invariant.plays o applied h in
-    subst (λ (e : RunEnd). ListedEnd g.F.Fabric o (g.E.Events.told c.args.events.now) c.args.progress.now.left applied (Err e) c.loop-refusal.machine c.loop-refusal.progress (waiting c.loop-refusal.gathered) (g.K.Sink.taken c.loop-refusal.out)) (sym c.refused.ensures)
+    subst (λ (e : Outcome). ListedEnd g.F.Fabric o (g.E.Events.told c.args.events.now) c.args.progress.now.left applied (Err e) c.loop-refusal.machine c.loop-refusal.progress (waiting c.loop-refusal.gathered) (g.K.Sink.taken c.loop-refusal.out)) (sym c.refused.ensures)
     (refused_there g.F.Fabric o (g.E.Events.told c.args.events.now) (g.E.Events.told c.loop-refusal.events) (g.E.Events.told c.next_event.new.self) c.in-Err.refusal c.args.progress.now.left applied at.0 c.loop-refusal.machine c.loop-refusal.progress
     (waiting c.loop-refusal.gathered) (g.K.Sink.taken c.loop-refusal.out) at.1 at.2 c.in-Err.ensures.told)
 

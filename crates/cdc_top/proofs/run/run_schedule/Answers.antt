@@ -1,8 +1,9 @@
-use Rattle.std.proofs.Common.{◌≤◌, ap, sym, subst, arith, length, refl, Err, inl, inr}
+use Rattle.std.proofs.Common.{ap, sym, subst, refl, Err, inl, inr}
 use Rattle.std.specs.Prelude.{List, ℕ}
 use Rattle.cdc_prog.specs.Translation.{program_of}
-use Rattle.cdc_top.specs.Answer.{IsHeader, IsTold, ScheduleAnswers, schedule_refused}
-use Rattle.cdc_top.proofs.Ends.{ended_memory, ended_read, ended_said, ended_answers, with_schedule, unread, unread_told, too_long, too_long_told, too_long_long, whole_told, not_failed}
+use Rattle.cdc_top.specs.Answer.{IsTold, ScheduleAnswers}
+use Rattle.cdc_top.specs.Schedule.{schedule_too_long}
+use Rattle.cdc_top.proofs.Ends.{ended_memory, ended_read, ended_said, ended_one_of, with_schedule, unread, unread_told, too_long, too_long_told, too_long_long, whole_told, not_failed}
 use Rattle.cdc_top.specs.declared.limits.TheConstants.{SCHEDULE_LIMIT}
 use Rattle.cdc_top.proofs.run.run_schedule.Goals as goal
 
@@ -19,20 +20,10 @@ returns-in-Err-TooLong g c =
     let told = g.S.Store.told c.args.store.now c.args.schedule.now in
     let bytes = too_long SCHEDULE_LIMIT told in
     let long = too_long_long SCHEDULE_LIMIT told (c.in-Err-TooLong.ensures.long (ap Err c.in-Err-TooLong.field-0-is)) in
-    let is : ScheduleAnswers (program_of c.args.compiled.program) bytes c.args.records.records schedule_refused = inl (λ bound header. omega (arith, long, header.within), refl) in
-    ended_said (with_schedule bytes) schedule_refused _ _ _ _ _ _ _ (too_long_told SCHEDULE_LIMIT told) is is (c.in-Err-TooLong.ensures.cause.kept (not_failed _ (ap Err c.in-Err-TooLong.field-0-is))) c.say.ensures
-
-pub returns-in-None : goal.returns-in-None
-returns-in-None g c =
-    let bytes = c.deref.result.now in
-    let told : IsTold (g.S.Store.told c.args.store.now c.args.schedule.now) bytes = subst (λ (b : List ℕ). IsTold (g.S.Store.told c.args.store.now c.args.schedule.now) b) (sym c.deref.ensures.value) (whole_told SCHEDULE_LIMIT _ _ c.in-Ok.ensures.whole) in
-    let is : ScheduleAnswers (program_of c.args.compiled.program) bytes c.args.records.records schedule_refused = inl (λ bound header. cc (c.in-None.ensures.only bound header.is_schedule), refl) in
-    ended_said (with_schedule bytes) schedule_refused _ _ _ _ _ _ _ told is is (c.in-Ok.ensures.cause.kept (λ e. cc e)) c.say-in-None.ensures
+    let is : ScheduleAnswers (program_of c.args.compiled.program) bytes c.args.records.records schedule_too_long = inl (long, refl) in
+    ended_said (with_schedule bytes) schedule_too_long _ _ _ _ _ _ _ (too_long_told SCHEDULE_LIMIT told) is is (c.in-Err-TooLong.ensures.cause.kept (not_failed _ (ap Err c.in-Err-TooLong.field-0-is))) c.say.ensures
 
 pub returns : goal.returns
 returns g c =
-    let bytes = c.deref.result.now in
-    let told : IsTold (g.S.Store.told c.args.store.now c.args.schedule.now) bytes = subst (λ (b : List ℕ). IsTold (g.S.Store.told c.args.store.now c.args.schedule.now) b) (sym c.deref.ensures.value) (whole_told SCHEDULE_LIMIT _ _ c.in-Ok.ensures.whole) in
-    let within : length bytes ≤ SCHEDULE_LIMIT = omega (arith, c.deref.ensures.len, c.in-Ok.ensures.within) in
-    let header : IsHeader bytes c.in-Some.bound = record { within = within; is_schedule = c.in-Some.ensures.found } in
-    ended_answers (with_schedule bytes) _ _ _ _ _ _ _ told (λ a is. inr (c.in-Some.bound, header, is)) (λ a is. is) (c.in-Ok.ensures.cause.kept (λ e. cc e)) c.run_machine.ensures
+    let bytes = c.in-Ok.bytes.items in
+    ended_one_of (with_schedule bytes) _ _ _ _ _ _ _ (whole_told SCHEDULE_LIMIT _ _ c.in-Ok.ensures.whole) (λ a is. is) (c.in-Ok.ensures.cause.kept (λ e. cc e)) c.run_bytes.ensures
