@@ -6,7 +6,7 @@ use Rattle.cdc_base.specs.Outside.{IsWhole, IsLong}
 use Rattle.cdc_base.specs.Causes.{Rose}
 use Rattle.cdc_base.specs.declared.outside.ReadRefusal.{ReadRefusal}
 use Rattle.cdc_base.specs.declared.outside.ReadRefusal.TheVariants.{Failed, TooLong}
-use Rattle.cdc_top.specs.Answer.{usage_text, Command, Usage, ToolEnded, Files, Said, Ended, IsTold, InputFailed, IsRefusedWith, SaidOneOf}
+use Rattle.cdc_top.specs.Answer.{usage_text, Command, Run, Ask, Seq, Usage, ToolEnded, Files, Said, Ended, IsTold, InputFailed, IsRefusedWith, SaidOneOf}
 use Rattle.cdc_top.specs.Report.{Answer, answer}
 use Rattle.cdc_check.specs.declared.refusal.CheckRefusal.TheVariants.{TooMany}
 use Rattle.cdc_compile.specs.declared.refusal.Refusal.TheVariants.{Check}
@@ -129,6 +129,17 @@ pub usage_ended : (command : Command) (told : List ℕ → Option (List ℕ)) (f
 usage_ended command told faults status old new sink_before sink_now is said =
     subst (λ (c : Command). ToolEnded c told status old new faults faults sink_before sink_now) (sym is)
     (ended_said (with_schedule []) (answer usage_text 2) status old new faults faults sink_before sink_now tt refl (λ b same. same) (λ name. refl) said)
+
+-- for want of memory the words are not read
+pub memory_ended : (command : Command) (told : List ℕ → Option (List ℕ)) (faults : List ℕ → ℕ) (old : Option (List ℕ)) (sink : ℕ) → ToolEnded command told 7 old old faults faults sink sink
+memory_ended (Run program input schedule) told faults old sink =
+    ended_memory (record { program = unread (told program); input = unread (told input); schedule = unread (told schedule) })
+    (unread_told (told program), unread_told (told input), unread_told (told schedule)) old faults faults sink
+memory_ended (Ask question program) told faults old sink =
+    ended_memory (record { program = unread (told program); input = []; schedule = [] }) (unread_told (told program)) old faults faults sink
+memory_ended (Seq program input) told faults old sink =
+    ended_memory (record { program = unread (told program); input = unread (told input); schedule = [] }) (unread_told (told program), unread_told (told input)) old faults faults sink
+memory_ended Usage told faults old sink = ended_memory (with_schedule []) tt old faults faults sink
 
 -- a program of too many bytes is refused
 pub source_too_long : (bytes : List ℕ) → limit k.Source < length bytes → IsRefusedWith bytes (answer (refusal_text (Check (TooMany k.Source))) PROGRAM_REFUSED)

@@ -1,6 +1,5 @@
 -- What the tool answers to the words of a command line: bytes and a status.
-use Rattle.std.specs.Prelude.{◌≡◌, ◌≢◌, ℕ, ◌<◌, List, [], ◌∷◌, length, Option, Some, None, Ok, Err, if◌then◌else◌, ◌==◌, ◌&&◌, Bool, false, not, codes, ◌⊎◌}
-use Rattle.std.specs.Str.{bytes_eq}
+use Rattle.std.specs.Prelude.{◌≡◌, ◌≢◌, ℕ, ◌<◌, List, [], ◌∷◌, length, Option, Some, None, Ok, Err, codes, ◌⊎◌}
 use Rattle.cdc_base.specs.Causes.{Rose}
 use Rattle.cdc_base.specs.Outside.{grown}
 use Rattle.cdc_compile.specs.declared.refusal.Refusal.{Refusal}
@@ -17,6 +16,7 @@ use Rattle.cdc_code.specs.Template.{code_of}
 use Rattle.cdc_compile.specs.Compiled.{ordinary_marks}
 use Rattle.cdc_report.specs.Listing.{code_text}
 use Rattle.cdc_text.specs.Pieces.{GrewByFront}
+use Rattle.cdc_words.specs.Commands as w
 use Rattle.cdc_top.specs.declared.source.Question.{Question}
 use Rattle.cdc_top.specs.declared.source.Question.TheVariants.{Check, Listing}
 use Rattle.cdc_report.specs.End.{joined}
@@ -29,43 +29,23 @@ use Rattle.cdc_top.specs.Status.{IsFinished}
 use Rattle.cdc_top.specs.declared.limits.TheConstants.{SCHEDULE_LIMIT}
 use Rattle.cdc_top.specs.declared.status.TheConstants.{NO_COMMAND, PROGRAM_REFUSED, INPUT_REFUSED, READ_FAULT, WRITE_FAULT, OUT_OF_MEMORY, DONE}
 
--- a command by its words
+-- what is carried out for the words of a command line
 pub data Command : Type 0 where
   Run : (program input schedule : List ℕ) → Command
   Ask : Question → (program : List ℕ) → Command
   Seq : (program input : List ℕ) → Command
   Usage : Command
 
--- a word that is empty or begins with `-` is no name of a file
-abbrev pub is_name : List ℕ → Bool
-is_name [] = false
-is_name (b ∷ word) = not (b == 45)
-
-abbrev pub run_of : List ℕ → List ℕ → List ℕ → List ℕ → Command
-run_of verb program input schedule =
-    if bytes_eq verb (codes "run") && (is_name program && (is_name input && is_name schedule)) then Run program input schedule else Usage
-
--- what is asked of a source by one word
-abbrev pub question_of : List ℕ → Option Question
-question_of verb = if bytes_eq verb (codes "check") then Some Check else if bytes_eq verb (codes "code") then Some Listing else None
-
-abbrev pub asked : Option Question → List ℕ → Command
-asked None program = Usage
-asked (Some question) program = if is_name program then Ask question program else Usage
-
-abbrev pub ask_of : List ℕ → List ℕ → Command
-ask_of verb program = asked (question_of verb) program
-
-abbrev pub seq_of : List ℕ → List ℕ → List ℕ → Command
-seq_of verb program input = if bytes_eq verb (codes "seq") && (is_name program && is_name input) then Seq program input else Usage
+-- by the line of the command table that they are, if they are one; `marks` and `bench` are not built yet
+abbrev pub built : Option w.Command → Command
+built (Some (w.Run program input schedule)) = Run program input schedule
+built (Some (w.Check program)) = Ask Check program
+built (Some (w.Code program)) = Ask Listing program
+built (Some (w.Seq program input)) = Seq program input
+built words = Usage
 
 abbrev pub command_of : List (List ℕ) → Command
-command_of [] = Usage
-command_of (verb ∷ []) = Usage
-command_of (verb ∷ program ∷ []) = ask_of verb program
-command_of (verb ∷ program ∷ input ∷ []) = seq_of verb program input
-command_of (verb ∷ program ∷ input ∷ schedule ∷ []) = run_of verb program input schedule
-command_of (verb ∷ program ∷ input ∷ schedule ∷ more ∷ words) = Usage
+command_of words = built (w.command_of words)
 
 abbrev pub usage_text : List ℕ
 usage_text = joined (

@@ -1,5 +1,4 @@
 pub mod Answer
-pub mod Chosen
 pub mod Complete
 pub mod Laws
 pub mod Report

@@ -9,4 +9,4 @@ pub returns-clause-hits : goal.returns-clause-hits
 returns-clause-hits g c = no_read_hits
 
 pub returns-clause-completeness : goal.returns-clause-completeness
-returns-clause-completeness g c = rw c.deref.ensures.value at (completes _ _ _ _ _ _ _ _ _ c.carry_out.ensures)
+returns-clause-completeness g c = rw c.deref.ensures.value at (completes _ _ _ _ _ _ _ _ _ c.answer_words.ensures)
