@@ -158,8 +158,9 @@ output_grows code records (e ∷ more) events =
     let look = act code in
     let c = call look (entry_of code) (exit_of code) d h.machine in
     let text = bytes_of code.texts (piece_in (told look (entry_of code) (exit_of code) d h.machine false)) in
-    let said = says look (entry_of code) (exit_of code) (given c h.calls) d h.machine false in
-    (before.0 ++ text,
-        ap (bytes_of code.texts) said
-        ∙ (bytes_of_both code.texts h.machine.printed (piece_in (told look (entry_of code) (exit_of code) d h.machine false))
-        ∙ (ap (λ (l : List ℕ). l ++ text) before.1 ∙ append_assoc (output_after code records events) before.0 text)))
+    let said = says look (entry_of code) (exit_of code) (given c h.calls) d h.machine false in (
+      before.0 ++ text,
+      ap (bytes_of code.texts) said
+          ∙ (bytes_of_both code.texts h.machine.printed (piece_in (told look (entry_of code) (exit_of code) d h.machine false))
+          ∙ (ap (λ (l : List ℕ). l ++ text) before.1 ∙ append_assoc (output_after code records events) before.0 text)),
+    )

@@ -45,7 +45,7 @@ module _ {bytes : List ℕ} {h k : Header} {a b : ℕ} (p : HasHeader bytes h a)
   not_shorter less =
       let last : List (List ℕ) = q.last ∷ [] in
       let split : q.above ++ (last ++ lines (drop b bytes)) ≡ lines (take a bytes) ++ lines (drop a bytes) =
-          sym (append_assoc q.above last (lines (drop b bytes))) ∙ ap (λ z. z ++ lines (drop b bytes)) (sym q.ends) ∙ sym both in
+      sym (append_assoc q.above last (lines (drop b bytes))) ∙ ap (λ z. z ++ lines (drop b bytes)) (sym q.ends) ∙ sym both in
       let within : length (lines (take a bytes)) ≤ length q.above = omega (arith, less, ap length q.ends, length-append q.above last) in
       let six = fewer q.above (last ++ lines (drop b bytes)) (lines (take a bytes)) (lines (drop a bytes)) split within in
       let words = ap (λ z. length (kept_words z)) q.ends ∙ ap length (kept_append q.above last) ∙ length-append (kept_words q.above) (kept_words last) in

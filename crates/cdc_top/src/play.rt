@@ -1,14 +1,11 @@
 // The run of a program's code by the machine, as its schedule says.
-ghost use Rattle.std.specs.Prelude.{◌≡◌, ◌≢◌, ◌≤◌, ℕ, [], ◌∷◌, ◌++◌, List as Items, Some, IfOk, if◌then◌else◌};
-ghost use Rattle.cdc_code.specs.declared.code.Code.{Code as CodeOf};
+ghost use Rattle.std.specs.Prelude.{◌≡◌, ◌≢◌, ◌≤◌, ℕ, [], ◌∷◌, ◌++◌, List as Items, Ok as Accepts, Some, IfOk, if◌then◌else◌};
 ghost use Rattle.cdc_compile.specs.Source.{IsProgramOf};
-ghost use Rattle.std.specs.Prelude.{Ok as Accepts};
 ghost use Rattle.cdc_epoch.specs.Ties.{counts_of};
 ghost use Rattle.cdc_epoch.specs.declared.outcome.Outcome.TheVariants.{ReadFault, SinkFault as SinkFailed};
 ghost use Rattle.cdc_fabric.specs.UncachedSteps.{uncached_procs};
 ghost use Rattle.cdc_fabric.specs.contracts.uncached.UncachedFabric.TheImpl.{ghosts as memory_side};
 ghost use Rattle.cdc_prog.specs.Plain as plain;
-ghost use Rattle.cdc_sched.specs.Limits.{IsHeader};
 ghost use Rattle.cdc_sched.specs.Listing.{listed_told, listed_procs};
 ghost use Rattle.cdc_sched.specs.Told.{Told};
 ghost use Rattle.cdc_top.specs.Answer.{Said, SaidOneOf, compiled_code};

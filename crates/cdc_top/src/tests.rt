@@ -63,7 +63,8 @@ const UNFINISHED: &str = "cdc 1\nscheme direct\nprocs 1\ncache 1 1 1\nbound 100\
 const BAD_EVENT: &str =
     "cdc 1\nscheme direct\nprocs 1\ncache 1 1 1\nbound 100\ntail rr\nevents\nnext 0 11\njump 0\n";
 
-const CONFLICT: &str = "PROGRAM C\nINTEGER A(10)\nDOALL I = 1, 9\nA(I) = A(I + 1)\nEND DOALL\nEND\n";
+const CONFLICT: &str =
+    "PROGRAM C\nINTEGER A(10)\nDOALL I = 1, 9\nA(I) = A(I + 1)\nEND DOALL\nEND\n";
 
 // A DOALL without iterations has two boundaries.
 const NO_TURNS: &str = "PROGRAM ZERO\nDOALL I = 5, 4\nEND DOALL\nPRINT *, 'x'\nEND\n";
@@ -184,13 +185,19 @@ fn orders_of_events_give_one_output(rt: HostRuntime) -> Result<(), Fail> {
         "tail rr\nevents\nnext 1 40\n",
         "tail rr\nevents\ntake 2 0\nstep 2 40\ntake 0 0\ntake 1 0\ntake 0 1\nevict 2 1\nstep 0\nstep 1\nstep 0\nstep 1\n",
     ] {
-        let schedule = format!(in rt.alloc(); "cdc 1\nscheme direct\nprocs 3\ncache 1 1 1\nbound 1000\n{events}")?;
+        let schedule = format!(in rt.alloc();
+            "cdc 1\nscheme direct\nprocs 3\ncache 1 1 1\nbound 1000\n{events}"
+        )?;
         let files = files_of(rt.alloc(), [SQUARES, "", schedule.as_str()])?;
         let mut store = MemStore::new(rt.alloc(), files, Vec::new(rt.alloc()))?;
         let mut sink = MemSink::new(rt.alloc(), 1000, Vec::new(rt.alloc()))?;
         let got = run_tool(rt.alloc(), &words, &mut store, &mut sink);
         assert_eq!(rt; got, 0, "{events}");
-        assert!(rt; sink.bytes().starts_with(b"14\n= end done\n= boundaries 2\n"), "{events}");
+        assert!(rt;
+            sink.bytes()
+                .starts_with(b"14\n= end done\n= boundaries 2\n"),
+            "{events}"
+        );
     }
     Ok(())
 }

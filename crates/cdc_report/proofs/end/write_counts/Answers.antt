@@ -21,7 +21,7 @@ returns-in_err-write_count g c =
     let more = begins_all counts (p + 1) c.args.procs within in
     wrote_part _ c.from_residual.result _ _ _ _ c.from_residual.ensures.0
     (subst (GrewByFront (g.K.Sink.taken c.args.out.now) (g.K.Sink.taken c.write_count.new.out)) (ap (λ (l : List ℕ). l ++ more.0) (one_more counts p) ∙ more.1)
-        (front_first more.0 (front_second (count_lines counts p) c.loop-p.invariant.so_far line)))
+    (front_first more.0 (front_second (count_lines counts p) c.loop-p.invariant.so_far line)))
     (subst (λ k. Rose k (g.K.Sink.faults c.write_count.new.out)) c.loop-p.invariant.quiet part.1)
 
 pub loop-p-preserved : goal.loop-p-preserved

@@ -25,7 +25,7 @@ close-requires g c =
     record {
       procs =
           sym (still_procs c.args.machine.now ran.new.machine (listed_told c.args.events.now) (tail_event h.tail h.procs c.lines.result) h.bound ran.result (g.K.Sink.taken c.args.out.now) (g.K.Sink.taken ran.new.out)
-              c.requires.begun.counts (ran.ensures.replays h.tail h.procs c.lines.result c.new-tail.ensures)
+          c.requires.begun.counts (ran.ensures.replays h.tail h.procs c.lines.result c.new-tail.ensures)
           ∙ c.requires.begun.procs_are);
       read = c.in_default.not-ReadFault;
       written = c.in_default.not-SinkFault;

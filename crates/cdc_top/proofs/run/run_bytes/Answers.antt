@@ -39,6 +39,6 @@ returns-in-Ok g c =
     let read : IsSchedule c.deref.result.now h at = record { within = within; has = c.in-Ok.ensures.header } in
     let is : IsSchedule bytes h at = subst (λ (b : List ℕ). IsSchedule b h at) c.deref.ensures.value read in
     elim (c.run_events.ensures (told_in bytes h at) c.new-events.ensures.told) [
-    | inl nothing ↦ inl nothing
-    | inr said ↦ inr (said.0, inr (inr (h, at, is, said.1 ∙ ap (λ (k : Code). played k records (told_in bytes h at) h) c.requires.code)), said.2)
+      | inl nothing ↦ inl nothing
+      | inr said ↦ inr (said.0, inr (inr (h, at, is, said.1 ∙ ap (λ (k : Code). played k records (told_in bytes h at) h) c.requires.code)), said.2)
     ]
