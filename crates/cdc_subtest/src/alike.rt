@@ -21,7 +21,6 @@ fn same_interval(x: Option<Interval>, y: Option<Interval>) -> bool
     }
 }
 
-// The constants differ most often.
 fn same_numbers(x: &Sketch, y: &Sketch) -> bool
     ensures { result ≡ true → (x.now.rest ≡ y.now.rest) × (x.now.own ≡ y.now.own) × (x.now.steady ≡ y.now.steady) × (x.now.common ≡ y.now.common) }
 {
@@ -64,10 +63,12 @@ fn same_forms(xs: &[Option<Sketch>], ys: &[Option<Sketch>]) -> bool
     }
 }
 
+// The first constants are looked at beside the rest, since the forms lie elsewhere in memory.
 fn is_like(p: &Reference, q: &Reference) -> bool
     ensures { result ≡ true → IsLike (seen_of p.now) (seen_of q.now) }
 {
     p.writes == q.writes
+        && p.first == q.first
         && same_var(p.at.var, q.at.var)
         && same_forms(p.subs.as_slice(), q.subs.as_slice())
 }

@@ -16,6 +16,8 @@ use std::alloc::Global;
 pub struct Reference {
     pub at: Ref,
     pub writes: bool,
+    /// The constant of the first form, by which most forms differ; 0 where there is none.
+    pub first: i64,
     pub subs: List<Option<Sketch>>,
 }
 
@@ -34,6 +36,13 @@ fn inside(alloc: Global, scope: &Scope, i: Index) -> Result<Scope, NoMemory>
     Ok(Scope { indexes, fixed })
 }
 
+fn first_constant(subs: &[Option<Sketch>]) -> i64 {
+    match subs {
+        [Some(s), ..] => s.rest,
+        _ => 0,
+    }
+}
+
 fn refer(
     alloc: Global,
     scope: &Scope,
@@ -45,7 +54,13 @@ fn refer(
     ensures { OnOk result (map seen_of out.new.items ≡ map seen_of out.old.items ++ seen (spot scope.now writes at (exprs_of subs.now)) ∷ []) }
 {
     let subs = sketches(alloc, scope, subs.as_slice())?;
-    out.push(Reference { at, writes, subs })?;
+    let first = first_constant(subs.as_slice());
+    out.push(Reference {
+        at,
+        writes,
+        first,
+        subs,
+    })?;
     Ok(())
 }
 

@@ -58,7 +58,7 @@ pub fn sketches(
 ) -> Result<List<Option<Sketch>>, NoMemory>
     ensures { IfOk result (λ l. map glance_in l ≡ glimpses scope.now (exprs_of subs.now)) }
 {
-    let mut out = Vec::new(alloc);
+    let mut out = Vec::with_capacity(alloc, subs.len())?;
     for e in subs {
         let one = sketch_of(alloc, scope, e)?;
         if out.push(one).is_err() {
