@@ -11,7 +11,7 @@ use Rattle.cdc_prog.specs.Plain as plain
 use Rattle.cdc_prog.specs.Plain.{Exprs, Empty, More}
 use Rattle.cdc_prog.specs.Translation.{expr_of, exprs_of}
 use Rattle.cdc_prog.specs.declared.expr.Ref.{Ref}
-use Rattle.cdc_prog.specs.Data.{size_of, dims_in, base_of, dims_of}
+use Rattle.cdc_prog.specs.Data.{size_of, dims_in, object_of, base_of, dims_of}
 use Rattle.cdc_prog.specs.Resolved.{AreLaidOut, IsVar, ExprFits, SubsFit, SpotFits}
 use Rattle.cdc_prog.proofs.Words.{object_within, bound_to}
 use Rattle.cdc_meaning.specs.declared.frame.Frame.{Frame}
@@ -22,13 +22,15 @@ object_some from [] words k h lt = absurd (omega (arith, lt))
 object_some from (o ∷ os) words zero h lt = omega (arith, h.1, h.2)
 object_some from (o ∷ os) words (suc k) h lt = object_some (from + o.words) os words k h.3 (omega (arith, lt))
 
--- the elements of a variable, of which there is one at least, lie in memory
+-- a variable stands for an object, and its elements, of which there is one at least, lie in memory
 pub record HasMemory (f : Frame) (v : Var) : Type 0 where
+  pub there : object_of (binding f) v < length f.program.now.objects
   pub some : 0 < size_of (dims_of (binding f) v)
   pub room : base_of (binding f) v + size_of (dims_of (binding f) v) ≤ f.program.now.words
 
 pub in_memory : (f : Frame) (v : Var) → IsPlaced f → IsVar f.program.now.objects (shapes_of f) 0 v → HasMemory f v
 in_memory f (var.Object k) h is = record {
+  there = is;
   some = object_some 0 f.program.now.objects f.program.now.words k h.laid_out is;
   room = object_within 0 f.program.now.objects f.program.now.words k h.laid_out is;
 }
@@ -37,10 +39,14 @@ in_memory f (var.Dummy k) h is =
     let j = get_or f.bound.now k 0 in
     let at = bound_to os (shapes_of f) f.bound.now k h.bound is in
     record {
+      there = at.there;
       some = omega (arith, at.size, object_some 0 os f.program.now.words j h.laid_out at.there);
       room = omega (arith, at.size, object_within 0 os f.program.now.words j h.laid_out at.there);
     }
 in_memory f (var.Slot k) h is = absurd (omega (arith, is))
+
+pub object_there : (f : Frame) (v : Var) (k : ℕ) (os : List Object) → IsPlaced f → IsVar f.program.now.objects (shapes_of f) 0 v → k ≡ object_of (binding f) v → os ≡ f.program.now.objects → k < length os
+object_there f v k os h is at same = omega (arith, (in_memory f v h is).there, at, ap length same)
 
 -- a variable with elements is no slot
 pub elements_known : (f : Frame) (slots : ℕ) (v : Var) (e : plain.Expr) (es : Exprs) → SpotFits f.program.now.objects (shapes_of f) slots v (More e es) → IsVar f.program.now.objects (shapes_of f) 0 v

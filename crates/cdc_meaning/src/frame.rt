@@ -28,15 +28,14 @@ impl<'a> Frame<'a> {
         }
     }
 
-    // The first word of a variable.
+    // The first word of a variable that is no slot.
     #[inline(always)]
     fn base(&self, var: Var) -> u32
+        requires placed { IsPlaced self.now }
+        requires known { IsVar self.now.program.now.objects (shapes_of self.now) 0 var }
         ensures { result ≡ base_of (binding self.now) var }
     {
-        match self.program.objects.as_slice().get(self.object(var)) {
-            Some(object) => object.base,
-            None => 0,
-        }
+        self.program.objects.as_slice()[self.object(var)].base
     }
 
     /// The dimensions of a variable; none for a scalar.

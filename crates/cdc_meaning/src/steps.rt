@@ -34,9 +34,14 @@ pub fn assign(
     ensures { StepsAlone (assign (binding frame.now) line (target_of target.now) (expr_of e.now)) slots.old (store_of words.old) result slots.new (store_of words.new) }
 {
     let cell = located(frame, words, slots, line, target)?;
-    let v = value(frame, words, slots, line, e)?;
-    keep(words, slots, cell, v);
-    Ok(())
+    // `?` would move the value through memory.
+    match value(frame, words, slots, line, e) {
+        Ok(v) => {
+            keep(words, slots, cell, v);
+            Ok(())
+        }
+        Err(fault) => Err(fault),
+    }
 }
 
 /// The turns of a DO loop, and what raises its variable after each.
