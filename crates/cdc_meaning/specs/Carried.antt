@@ -41,6 +41,10 @@ state words slots left output = record { store = store_of words; around = around
 abbrev pub state_of : (words slots : List ℤ) → Streams → (taken : Option (List ℕ)) → (faults : ℕ) → State
 state_of words slots streams taken faults = state words slots (left_of streams.unread) (output_of taken streams.page faults)
 
+-- the same, whatever the slots are
+abbrev pub states_of : (words : List ℤ) → Streams → (taken : Option (List ℕ)) → (faults : ℕ) → (slots : List ℤ) → State
+states_of words streams taken faults slots = state_of words slots streams taken faults
+
 -- what a process prints on a store, and its end
 abbrev pub meant : (texts : List (List ℕ)) → Process → Store → Meaning
 meant texts p s = meaning_of texts (run p s)

@@ -26,9 +26,10 @@ Forks b k slots s (Ok f) =
 Forks b k slots s (Err f) =
     (number : ℕ) (left : Input) (body : Work) (rest : Surroundings → Process) → Same (parallel b k number body (around slots left) rest) s (Fail f.kind f.line) s
 
--- the iterations of a body come to what follows
-abbrev pub DoesFork : Frame → Fork → (body : Stmt) → State → Result (Unit {0}) Stop → State → Type 0
-DoesFork f t body x result y = (calls : Calls) (number : ℕ) → Carried f.program.now.texts (forked (binding f) number t (stmt calls (binding f) body)) x result y
+-- the iterations of a body come to what follows, whatever the slots around them are
+abbrev pub DoesFork : Frame → Fork → (body : Stmt) → (before : List ℤ → State) → Result (Unit {0}) Stop → (after : List ℤ → State) → Type 0
+DoesFork f t body x result y =
+    (slots : List ℤ) (calls : Calls) (number : ℕ) → Carried f.program.now.texts (forked (binding f) number t (stmt calls (binding f) body)) (x slots) result (y slots)
 
 -- each DOALL of the statements has so many slots at most
 abbrev pub SlotsWithin : (most : ℕ) → Stmt → Type 0

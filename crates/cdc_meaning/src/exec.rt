@@ -1,5 +1,5 @@
 // Statements.
-ghost use Rattle.std.specs.Prelude.{◌≡◌, ◌<◌, length, List, ℤ};
+ghost use Rattle.std.specs.Prelude.{◌≡◌, ◌<◌, length};
 ghost use Rattle.cdc_prog.specs.Bodies.{HasOnly};
 ghost use Rattle.cdc_prog.specs.Resolved.{IsScalar, StmtFits};
 ghost use Rattle.cdc_meaning.specs.Loops.{DoesTurns};
@@ -7,7 +7,7 @@ ghost use Rattle.cdc_meaning.specs.Doall.{DoesFork, SlotsWithin};
 ghost use Rattle.cdc_prog.specs.Trips.{HasIndexes};
 ghost use Rattle.cdc_prog.specs.Translation.{stmt_of, stmts_of, program_of};
 ghost use Rattle.cdc_meaning.specs.Frames.{shapes_of, IsPlaced};
-ghost use Rattle.cdc_meaning.specs.Carried.{state_of, DoesStmt};
+ghost use Rattle.cdc_meaning.specs.Carried.{state_of, states_of, DoesStmt};
 
 use crate::doall::{Fork, begin_doall, begin_iteration};
 use crate::expr::value;
@@ -45,7 +45,8 @@ pub fn exec<K: Sink>(
     requires fits { StmtFits (program_of frame.now.program.now) (λ u. 0) 0 (shapes_of frame.now) (length slots.old) (stmt_of statement.now) }
     requires calls { HasOnly (Unit {0}) (Unit {0}) ⊥ (stmt_of statement.now) }
     requires lane { SlotsWithin (length lane.old) (stmt_of statement.now) }
-    ensures { DoesStmt frame.now (stmt_of statement.now) (state_of words.old slots.old streams.old (K.taken out.old) (K.faults out.old)) result (state_of words.new slots.new streams.new (K.taken out.new) (K.faults out.new)) }
+    ensures { DoesStmt frame.now (stmt_of statement.now) (state_of words.old slots.old streams.old (K.taken out.old) (K.faults out.old))
+        result (state_of words.new slots.new streams.new (K.taken out.new) (K.faults out.new)) }
 {
     match statement {
         Stmt::Assign {
@@ -147,7 +148,8 @@ pub fn exec_all<K: Sink>(
     requires fits { StmtFits (program_of frame.now.program.now) (λ u. 0) 0 (shapes_of frame.now) (length slots.old) (stmts_of statements.now) }
     requires calls { HasOnly (Unit {0}) (Unit {0}) ⊥ (stmts_of statements.now) }
     requires lane { SlotsWithin (length lane.old) (stmts_of statements.now) }
-    ensures { DoesStmt frame.now (stmts_of statements.now) (state_of words.old slots.old streams.old (K.taken out.old) (K.faults out.old)) result (state_of words.new slots.new streams.new (K.taken out.new) (K.faults out.new)) }
+    ensures { DoesStmt frame.now (stmts_of statements.now) (state_of words.old slots.old streams.old (K.taken out.old) (K.faults out.old))
+        result (state_of words.new slots.new streams.new (K.taken out.new) (K.faults out.new)) }
 {
     for statement in statements {
         exec(frame, words, slots, lane, streams, out, statement)?;
@@ -174,7 +176,8 @@ fn repeat<K: Sink>(
     requires lane { SlotsWithin (length lane.old) (stmts_of body.now) }
     requires again { IsScalar frame.now.program.now.objects (shapes_of frame.now) (length slots.old) turns.again.var }
     requires bump { IsScalar frame.now.program.now.objects (shapes_of frame.now) (length slots.old) turns.bump.var }
-    ensures { DoesTurns frame.now turns (stmts_of body.now) (state_of words.old slots.old streams.old (K.taken out.old) (K.faults out.old)) result (state_of words.new slots.new streams.new (K.taken out.new) (K.faults out.new)) }
+    ensures { DoesTurns frame.now turns (stmts_of body.now) (state_of words.old slots.old streams.old (K.taken out.old) (K.faults out.old))
+        result (state_of words.new slots.new streams.new (K.taken out.new) (K.faults out.new)) }
 {
     for _ in 0..turns.count {
         exec_all(frame, words, slots, lane, streams, out, body)?;
@@ -201,7 +204,8 @@ fn iterate<K: Sink>(
     requires fits { StmtFits (program_of frame.now.program.now) (λ u. 0) 0 (shapes_of frame.now) (length lane.old) (stmts_of body.now) }
     requires alone { HasOnly ⊥ ⊥ ⊥ (stmts_of body.now) }
     requires indexes { HasIndexes fork.count fork.from fork.by }
-    ensures { (slots : List ℤ) → DoesFork frame.now fork (stmts_of body.now) (state_of words.old slots streams.old (K.taken out.old) (K.faults out.old)) result (state_of words.new slots streams.new (K.taken out.new) (K.faults out.new)) }
+    ensures { DoesFork frame.now fork (stmts_of body.now) (states_of words.old streams.old (K.taken out.old) (K.faults out.old))
+        result (states_of words.new streams.new (K.taken out.new) (K.faults out.new)) }
 {
     for k in 0..fork.count {
         begin_iteration(lane, fork, k);

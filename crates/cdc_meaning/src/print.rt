@@ -78,7 +78,8 @@ fn show<K: Sink>(
     requires placed { IsPlaced frame.now }
     requires room { length words.now ≡ frame.now.program.now.words }
     requires fits { ItemFits frame.now.program.now.objects (shapes_of frame.now) (length slots.now) (length frame.now.program.now.texts) (item_of item.now) }
-    ensures { ShowsItem frame.now words.now slots.now line first (item_of item.now) (output_of (K.taken out.old) page.old (K.faults out.old)) result (output_of (K.taken out.new) page.new (K.faults out.new)) }
+    ensures { ShowsItem frame.now words.now slots.now line first (item_of item.now) (output_of (K.taken out.old) page.old (K.faults out.old))
+        result (output_of (K.taken out.new) page.new (K.faults out.new)) }
 {
     let texts = frame.program.texts.as_slice();
     match item {
@@ -108,7 +109,8 @@ pub fn print<K: Sink>(
     requires placed { IsPlaced frame.now }
     requires room { length words.now ≡ frame.now.program.now.words }
     requires fits { All (λ i. ItemFits frame.now.program.now.objects (shapes_of frame.now) (length slots.now) (length frame.now.program.now.texts) (item_of i)) shown.now }
-    ensures { ShowsItems frame.now words.now slots.now line (map item_of shown.now) (output_of (K.taken out.old) page.old (K.faults out.old)) result (output_of (K.taken out.new) page.new (K.faults out.new)) }
+    ensures { ShowsItems frame.now words.now slots.now line (map item_of shown.now) (output_of (K.taken out.old) page.old (K.faults out.old))
+        result (output_of (K.taken out.new) page.new (K.faults out.new)) }
 {
     let mut first = true;
     for item in shown {

@@ -31,7 +31,8 @@ pub fn read(
     requires placed { IsPlaced frame.now }
     requires room { length words.old ≡ frame.now.program.now.words }
     requires fits { All (λ t. TargetFits frame.now.program.now.objects (shapes_of frame.now) (length slots.old) (target_of t)) targets.now }
-    ensures { Steps (reads (binding frame.now) line (map target_of targets.now)) (around slots.old (left_of unread.old)) (store_of words.old) result (around slots.new (left_of unread.new)) (store_of words.new) }
+    ensures { Steps (reads (binding frame.now) line (map target_of targets.now)) (around slots.old (left_of unread.old)) (store_of words.old)
+        result (around slots.new (left_of unread.new)) (store_of words.new) }
 {
     for target in targets {
         let cell = located(frame, words, slots, line, target)?;
