@@ -1,4 +1,4 @@
-use Rattle.std.proofs.Common.{◌≡◌, ◌+◌, ◌≤◌, drop, sym, ap, ◌∙◌, subst, arith}
+use Rattle.std.proofs.Common.{sym, ap, ◌∙◌, subst, arith}
 use Rattle.cdc_prog.specs.Translation.{stmt_of, stmts_of, arms_of}
 use Rattle.cdc_prog.proofs.Translated.{at_if}
 use Rattle.cdc_meaning.specs.Doall.{SlotsWithin}

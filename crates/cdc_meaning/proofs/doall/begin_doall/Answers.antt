@@ -1,10 +1,10 @@
-use Rattle.std.proofs.Common.{◌≡◌, ℕ, ℤ, Ok, sym, ◌∙◌, rules, arith}
+use Rattle.std.proofs.Common.{◌≡◌, ℕ, ℤ, Ok, rules, arith}
 use mir.Val.{SFits}
 use mir.Syntax.{w64}
 use Rattle.std.proofs.lemmas.Int.{ints, to_z-of_z}
 use Rattle.cdc_prog.specs.Value.{trips, few}
 use Rattle.cdc_prog.specs.Trips.{few_of}
-use Rattle.cdc_prog.specs.Process.{Process, Tick, Fork, Join, or_fail}
+use Rattle.cdc_prog.specs.Process.{Tick, Fork, Join, or_fail}
 use Rattle.cdc_prog.specs.Expressions.{expr}
 use Rattle.cdc_prog.specs.Statements.{beginning}
 use Rattle.cdc_prog.specs.Held.{store_of, around}

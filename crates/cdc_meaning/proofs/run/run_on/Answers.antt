@@ -1,4 +1,4 @@
-use Rattle.std.proofs.Common.{◌≡◌, ◌<◌, ◌-◌, List, [], ◌∷◌, length, ap, ◌∙◌, sym, subst}
+use Rattle.std.proofs.Common.{◌≡◌, ◌-◌, List, [], ◌∷◌, length, ap, ◌∙◌, sym, subst}
 use Rattle.cdc_prog.specs.Data.{zeros}
 use Rattle.cdc_prog.specs.Process.{Halt}
 use Rattle.cdc_prog.specs.declared.program.Dim.{Dim}
@@ -14,7 +14,7 @@ use Rattle.cdc_meaning.specs.Carried.{output_of, state}
 use Rattle.cdc_prog.specs.Answers.{IsRun, HasPlainCause}
 use Rattle.cdc_meaning.specs.Answers.{TellsLine}
 use Rattle.cdc_prog.proofs.Answers.{all_zeros, is_run, has_cause}
-use Rattle.cdc_meaning.proofs.Answers.{without_calls, units_many, process_is, meaning_is, comes_over, tells_line}
+use Rattle.cdc_meaning.proofs.Answers.{without_calls, process_is, meaning_is, comes_over, tells_line}
 use Rattle.cdc_meaning.specs.Doall.{SlotsWithin}
 use Rattle.cdc_meaning.proofs.run.run_on.Goals as goal
 
