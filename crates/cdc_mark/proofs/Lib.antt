@@ -1,0 +1,11 @@
+pub mod Searched
+pub mod Firsts
+pub mod Glue
+pub mod Marking
+pub mod Sets
+pub mod Lowered
+pub mod Listed
+pub mod Columns
+pub mod Counted
+pub mod MainUnit
+pub mod Covering

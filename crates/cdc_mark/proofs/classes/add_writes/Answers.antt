@@ -1,0 +1,14 @@
+use Rattle.std.proofs.Common.{◌∙◌, arith}
+use Rattle.cdc_mark.specs.Least.{IsIn}
+use Rattle.cdc_mark.specs.Classes.{IsWriteAt}
+use Rattle.cdc_mark.proofs.Sets.{grown_by}
+use Rattle.cdc_mark.proofs.classes.add_writes.Goals as goal
+
+pub loop-q-preserved : goal.loop-q-preserved
+loop-q-preserved c =
+    let l = c.loop-q in
+    let p = c.args.p.now in
+    record {
+      count = c.add_write.ensures.count ∙ l.invariant.count;
+      bits = λ w. grown_by (IsIn c.add_write.new.bits w) (IsIn l.bits w) _ (IsWriteAt p w) c.args.refs.now l.q-index c.q-item.result (omega arith) c.q-item.is (c.add_write.ensures.bits w) (l.invariant.bits w);
+    }
