@@ -1,1 +1,3 @@
 pub mod Uncalled
+pub mod OneMarks
+pub mod Denoted
