@@ -15,7 +15,7 @@ use Rattle.cdc_task.specs.Steps.{GoesOn}
 use Rattle.cdc_machine.specs.Laws.{IsOver}
 use Rattle.cdc_machine.specs.declared.effect.Effect.{Effect}
 use Rattle.cdc_machine.specs.declared.effect.Effect.TheVariants as effect
-use Rattle.cdc_machine.specs.Machine.{TaskOf, Waiting, Running, Ended, PhaseOf, Serial, Doall, Over, DeedOf, Rests, Takes, Acts, Drops, waiting, least_free, closing, taking, acting, enabled, unless_over, deed, begun, call, done, told, acted}
+use Rattle.cdc_machine.specs.Machine.{TaskOf, Waiting, Running, Ended, PhaseOf, Serial, Doall, Over, DeedOf, Rests, Takes, Acts, Drops, waiting, least_free, closing, taking, acting, enabled, unless_over, deed, begun, call, done, told, acted, with_at}
 use Rattle.cdc_machine.specs.Code.{State, entry_of, exit_of}
 use Rattle.cdc_machine.proofs.Updates.{everywhere}
 use Rattle.cdc_epoch.specs.declared.engine.Engine.{Engine}
@@ -218,41 +218,47 @@ module _ {F : Type 0} (side : Ghosts F) (old mid : Engine F side) (same_code : m
         fault = l.fault;
       }
 
--- an instruction is counted
-module _ {F : Type 0} (side : Ghosts F) (old mid new : Engine F side) (m : State) (p i : ℕ) (at : Frame) where
-  pub counted : (answer : Effect) → new.code ≡ mid.code → new.records ≡ mid.records → new.side ≡ mid.side → new.steps ≡ set mid.steps p (one_more (get_or mid.steps p 0)) → parts_of side new ≡ record (parts_of side mid) { steps = new.steps }
-      → p < side.procs mid.side → length mid.steps ≡ side.procs mid.side → DoesAct side p i at m old answer mid → DoesDeed side (Acts p i at) m old answer new
-  counted answer code records same_side steps parts lt size a = record {
-    code = code ∙ a.code;
-    records = records ∙ a.records;
-    v = a.v;
-    made = subst (Made side (call (act old.code) (entry_of old.code) (exit_of old.code) (Acts p i at) m) old.side a.v) (sym same_side) a.made;
-    stays = subst (Stays side old.side) (sym same_side) a.stays;
-    stands = ties_by side new (acted (act old.code) (entry_of old.code) (exit_of old.code) a.v p i at (act old.code at) m) (side.procs mid.side) (record (parts_of side mid) { steps = set mid.steps p (one_more (get_or mid.steps p 0)) }) (ap side.procs same_side) (parts ∙ ap (λ l. record (parts_of side mid) { steps = l }) steps) (record {
-      phase = a.stands.phase;
-      live = λ l. keeps (a.stands.live l);
-      steps = everywhere (λ q n. q < side.procs mid.side → get_or (set mid.steps p (one_more (get_or mid.steps p 0))) q 0 ≡ n) m.steps p (one_more (m.steps p))
-          (λ l. get_or-set_same mid.steps p (one_more (get_or mid.steps p 0)) 0 (subst (λ n. p < n) (sym size) lt) ∙ ap one_more (a.stands.steps p lt))
-          (λ q ne l. get_or-set_other mid.steps p q (one_more (get_or mid.steps p 0)) 0 ne ∙ a.stands.steps q l);
-      boundaries = a.stands.boundaries;
+-- an instruction is counted before it is carried out
+abbrev pub with_count : State → (p : ℕ) → State
+with_count m p = record m { steps = with_at m.steps p (one_more (m.steps p)) }
+
+module _ {F : Type 0} (side : Ghosts F) (old mid : Engine F side) (m : State) (p : ℕ) where
+  pub counted_can : (same_code : mid.code ≡ old.code) (same_records : mid.records ≡ old.records) (same_side : mid.side ≡ old.side) → mid.steps ≡ set old.steps p (one_more (get_or old.steps p 0)) → parts_of side mid ≡ record (parts_of side old) { steps = mid.steps }
+      → p < side.procs old.side → length old.steps ≡ side.procs old.side → CanApply side old m → CanApply side mid (with_count m p)
+  counted_can same_code same_records same_side steps parts lt size can = record {
+    ties = ties_by side mid (with_count m p) (side.procs old.side) later (ap side.procs same_side) (parts ∙ ap (λ l. record (parts_of side old) { steps = l }) steps) (record {
+      phase = can.ties.phase;
+      live = λ l. keeps (can.ties.live l);
+      steps = everywhere (λ q n. q < side.procs old.side → get_or (set old.steps p (one_more (get_or old.steps p 0))) q 0 ≡ n) m.steps p (one_more (m.steps p))
+          (λ l. get_or-set_same old.steps p (one_more (get_or old.steps p 0)) 0 (subst (λ n. p < n) (sym size) lt) ∙ ap one_more (can.ties.steps p lt))
+          (λ q ne l. get_or-set_other old.steps p q (one_more (get_or old.steps p 0)) 0 ne ∙ can.ties.steps q l);
+      boundaries = can.ties.boundaries;
     });
-    effect = a.effect;
+    ready = let r = same_ready side old mid same_code same_records same_side m can.ready in record { tasks = r.tasks; entries = r.entries; exits = r.exits };
+    live = λ o. can.live (subst is_over (ap (λ (x : Parts). x.epoch) parts) o);
   }
     where
-      after : State
-      after = record (acted (act old.code) (entry_of old.code) (exit_of old.code) a.v p i at (act old.code at) m) { steps = m.steps }
+      later : Parts
+      later = record (parts_of side old) { steps = set old.steps p (one_more (get_or old.steps p 0)) }
 
-      keeps : Live side mid after → LiveAt (record (parts_of side mid) { steps = set mid.steps p (one_more (get_or mid.steps p 0)) }) (acted (act old.code) (entry_of old.code) (exit_of old.code) a.v p i at (act old.code at) m)
+      keeps : Live side old m → LiveAt later (with_count m p)
       keeps l = record {
         count = l.count;
         roster = record { count = l.roster.count; taken = l.roster.taken; holds = l.roster.holds; is_held = l.roster.is_held };
         tasks = l.tasks;
-        fault = by_fault mid.fault l.fault;
+        fault = by_fault old.fault l.fault;
       }
         where
-          by_fault : (f : Option Faulting) → FaultTied mid.code mid.records.records mid.serial mid.lanes.items f after → FaultTied mid.code mid.records.records mid.serial mid.lanes.items f (acted (act old.code) (entry_of old.code) (exit_of old.code) a.v p i at (act old.code at) m)
+          by_fault : (f : Option Faulting) → FaultTied old.code old.records.records old.serial old.lanes.items f m → FaultTied old.code old.records.records old.serial old.lanes.items f (with_count m p)
           by_fault None h = h
           by_fault (Some least) h = h
+
+  -- what was done behind the count is what the machine does
+  pub counted : (i : ℕ) (at : Frame) (same_code : mid.code ≡ old.code) (same_records : mid.records ≡ old.records) (same_side : mid.side ≡ old.side) (answer : Effect) (new : Engine F side) → DoesAct side p i at (with_count m p) mid answer new → DoesDeed side (Acts p i at) m old answer new
+  counted i at same_code same_records same_side answer new a = from_mid side old mid same_code same_records same_side (Acts p i at) m answer new (record { code = a.code; records = a.records; v = a.v; made = a.made; stays = a.stays; stands = a.stands; effect = a.effect })
+
+pub held_counted : (m : State) (p q i : ℕ) (at : Frame) → IsHeld m p i at → IsHeld (with_count m q) p i at
+held_counted m p q i at h = record { there = h.there; runs = h.runs }
 
 -- a line is dropped, or was not there
 module _ {F : Type 0} (side : Ghosts F) (old new : Engine F side) (m : State) (can : CanApply side old m) where

@@ -98,6 +98,7 @@ fn list_of(lists: &[List<u32>], number: u32) -> &[u32]
 }
 
 // Counts an instruction of a processor.
+#[inline(always)]
 fn count(steps: &mut List<u64>, p: u32)
     requires { p < length steps.old }
     ensures { steps.new ≡ slice_set steps.old p (one_more (get_or steps.old p 0)) }
@@ -161,6 +162,7 @@ impl<F: Fabric> Engine<F> {
 
     /// Applies an event, and tells what the machine did. An event that is not enabled changes nothing of the machine; nor does
     /// any event once the machine has ended. A drop is handed on to the memory side, whether the line is there or not.
+    #[inline(always)]
     pub fn apply(&mut self, event: Event) -> Effect
         requires proc { processor event < F.procs self.old.side }
         requires ready { (m : State) × Ties F.Fabric self.old m × IsReady F.Fabric self.old m }
@@ -172,6 +174,7 @@ impl<F: Fabric> Engine<F> {
     }
 
     // Does what an event asks for.
+    #[inline(always)]
     fn meet(&mut self, event: Event) -> Effect
         requires proc { processor event < F.procs self.old.side }
         requires ready { (m : State) × Ties F.Fabric self.old m × IsReady F.Fabric self.old m }
@@ -181,13 +184,29 @@ impl<F: Fabric> Engine<F> {
             return Effect::Idle;
         }
         match event {
+            Event::Next(p) => match self.roster.hand(p) {
+                Some(i) => self.act(p, i),
+                None => self.meet_rarely(event),
+            },
+            _ => self.meet_rarely(event),
+        }
+    }
+
+    // The same, where few events come.
+    #[inline(always)]
+    fn meet_rarely(&mut self, event: Event) -> Effect
+        requires proc { processor event < F.procs self.old.side }
+        requires can { (m : State) × CanApply F.Fabric self.old m }
+        ensures { (m : State) → CanApply F.Fabric self.old m → DoesDeed F.Fabric (deed event m) m self.old result self.new }
+    {
+        match event {
             Event::Take(p, i) => self.take(p, i),
             Event::Step(p) => match self.roster.hand(p) {
-                Some(i) => self.act(p, i),
+                Some(i) => self.act_apart(p, i),
                 None => self.close_if_complete(),
             },
             Event::Next(p) => match self.roster.hand(p) {
-                Some(i) => self.act(p, i),
+                Some(i) => self.act_apart(p, i),
                 None => match self.roster.least_free() {
                     Some(i) => self.hold(p, i),
                     None => self.close_if_complete(),
@@ -198,6 +217,7 @@ impl<F: Fabric> Engine<F> {
     }
 
     // A processor takes a task, where it holds none and the task is there and was not taken.
+    #[inline(never)]
     fn take(&mut self, p: u32, i: u64) -> Effect
         requires proc { p < F.procs self.old.side }
         requires can { (m : State) × CanApply F.Fabric self.old m }
@@ -210,6 +230,7 @@ impl<F: Fabric> Engine<F> {
     }
 
     // A processor holds a task from now on.
+    #[inline(never)]
     fn hold(&mut self, p: u32, i: u32) -> Effect
         requires proc { p < F.procs self.old.side }
         requires free { (m : State) × (at : Frame) × CanApply F.Fabric self.old m × IsFree F.Fabric self.old m p i at }
@@ -224,18 +245,30 @@ impl<F: Fabric> Engine<F> {
         Effect::Took
     }
 
-    // The next instruction of the task that a processor holds.
+    // The next instruction of the task that a processor holds. It is counted first, so that nothing stands between its effect
+    // and what is done with it.
+    #[inline(always)]
     fn act(&mut self, p: u32, i: u32) -> Effect
         requires proc { p < F.procs self.old.side }
         requires held { (m : State) × (at : Frame) × CanApply F.Fabric self.old m × IsHeld m p i at }
         ensures { (m : State) (at : Frame) → CanApply F.Fabric self.old m → IsHeld m p i at → DoesDeed F.Fabric (Acts p i at) m self.old result self.new }
     {
-        let effect = self.carry_out(p, i);
         count(&mut self.steps, p);
-        effect
+        self.carry_out(p, i)
     }
 
-    // The same, before it is counted.
+    // The same, on its own.
+    #[inline(never)]
+    fn act_apart(&mut self, p: u32, i: u32) -> Effect
+        requires proc { p < F.procs self.old.side }
+        requires held { (m : State) × (at : Frame) × CanApply F.Fabric self.old m × IsHeld m p i at }
+        ensures { (m : State) (at : Frame) → CanApply F.Fabric self.old m → IsHeld m p i at → DoesDeed F.Fabric (Acts p i at) m self.old result self.new }
+    {
+        self.act(p, i)
+    }
+
+    // The same, counted already.
+    #[inline(always)]
     fn carry_out(&mut self, p: u32, i: u32) -> Effect
         requires proc { p < F.procs self.old.side }
         requires held { (m : State) × (at : Frame) × CanApply F.Fabric self.old m × IsHeld m p i at }
@@ -248,6 +281,7 @@ impl<F: Fabric> Engine<F> {
     }
 
     // The next instruction of a serial task.
+    #[inline(always)]
     fn act_on_serial(&mut self, p: u32) -> Effect
         requires proc { p < F.procs self.old.side }
         requires serial { self.old.epoch ≡ InSerial }
@@ -285,6 +319,7 @@ impl<F: Fabric> Engine<F> {
     }
 
     // The next instruction of an iteration.
+    #[inline(always)]
     fn act_on_iteration(&mut self, p: u32, i: u32) -> Effect
         requires proc { p < F.procs self.old.side }
         requires doall { (fork : ForkOf) × (self.old.epoch ≡ InDoall fork) }
@@ -308,6 +343,7 @@ impl<F: Fabric> Engine<F> {
     }
 
     // Closes the epoch, where each of its tasks was taken and has ended.
+    #[inline(never)]
     fn close_if_complete(&mut self) -> Effect
         requires can { (m : State) × CanApply F.Fabric self.old m }
         ensures { (m : State) → CanApply F.Fabric self.old m → DoesDeed F.Fabric (closing m) m self.old result self.new }
@@ -374,6 +410,7 @@ impl<F: Fabric> Engine<F> {
     }
 
     // Drops a line from the cache of a processor.
+    #[inline(never)]
     fn evict(&mut self, p: u32, line: u64) -> Effect
         requires proc { p < F.procs self.old.side }
         requires can { (m : State) × CanApply F.Fabric self.old m }
@@ -413,6 +450,7 @@ impl<F: Fabric> Engine<F> {
     }
 
     /// The texts of the code.
+    #[inline(always)]
     pub fn texts(&self) -> &[List<u8>]
         ensures { result.now ≡ self.now.code.texts }
     {

@@ -27,16 +27,19 @@ impl<'a, F: Fabric> Port for Lent<'a, F> {
 
     ghost stores = { λ old word value new. F.stores old.side.now old.p word value new.side.now × Stays F.Fabric old.side.now new.side.now × (new.side.ghost_name ≡ old.side.ghost_name) × (new.p ≡ old.p) };
 
+    #[inline(always)]
     fn load(&mut self, word: u32, mark: Mark) -> i64 {
         self.side.load(self.p, word, mark)
     }
 
+    #[inline(always)]
     fn store(&mut self, word: u32, value: i64) {
         self.side.store(self.p, word, value);
     }
 }
 
 // One instruction of a task by processor `p`.
+#[inline(always)]
 pub(crate) fn step_on<F: Fabric>(
     side: &mut F,
     p: u32,

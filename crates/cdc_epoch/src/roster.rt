@@ -48,6 +48,7 @@ impl Roster {
     }
 
     // The task that a processor holds.
+    #[inline(always)]
     pub(crate) fn hand(&self, p: u32) -> Option<u32>
         requires { p < length self.now.held }
         ensures { result ≡ get_or self.now.held p None }
@@ -63,6 +64,7 @@ impl Roster {
     }
 
     // The least task that was not taken.
+    #[inline(always)]
     pub(crate) fn least_free(&mut self) -> Option<u32>
         ensures least { IsLeast self.old.taken self.old.count result }
         ensures count { self.new.count ≡ self.old.count }

@@ -33,12 +33,16 @@ impl Progress {
     }
 
     /// Counts an event by its effect.
+    #[inline(always)]
     pub fn count(&mut self, effect: Effect)
         requires some { 1 ≤ self.old.left }
         requires room { self.old.idle + 1 < 2 ^ 64 }
         ensures { self.new ≡ counted effect self.old }
     {
         self.left -= 1;
+        if let Effect::Stepped = effect {
+            return;
+        }
         match effect {
             Effect::Idle => self.idle += 1,
             Effect::Ended => self.end = Some(Outcome::Done),
@@ -58,6 +62,7 @@ impl Progress {
     }
 
     /// Whether an event may be applied, and the machine has not ended.
+    #[inline(always)]
     pub fn can_go_on(&self) -> bool
         ensures { result ≡ can_go_on self.now }
     {

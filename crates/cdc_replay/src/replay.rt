@@ -47,6 +47,7 @@ fn is_there(texts: &[List<u8>], piece: Piece) -> bool
 }
 
 // Gathers a piece, and says whether a line is open behind it. A text that is not there has no bytes.
+#[inline(never)]
 fn say<K: Sink>(
     out: &mut K,
     gathered: &mut Gathered,
@@ -67,6 +68,7 @@ fn say<K: Sink>(
 }
 
 // Gathers what an event prints, and says whether a line is open behind it.
+#[inline(always)]
 fn say_effect<K: Sink>(
     out: &mut K,
     gathered: &mut Gathered,
@@ -86,6 +88,7 @@ fn say_effect<K: Sink>(
 }
 
 // Applies an event, gathers what it prints, and counts it.
+#[inline(always)]
 fn apply_event<F: Fabric, K: Sink>(
     machine: &mut Engine<F>,
     event: Event,
@@ -116,6 +119,7 @@ fn apply_event<F: Fabric, K: Sink>(
 
 // Passes over the events that are the same as an idle one and come directly behind it: they are idle, too. An eviction is
 // applied each time.
+#[inline(never)]
 fn pass_idle<E: Events>(events: &mut E, event: Event, effect: Effect, progress: &mut Progress)
     requires last { E.last events.old ≡ Some (Ok (Some event)) }
     requires room { progress.old.idle + progress.old.left < 2 ^ 64 }
@@ -198,6 +202,7 @@ fn play_listed<F: Fabric, E: Events, K: Sink>(
 }
 
 // Applies the events of a tail until the machine has ended or none may be applied any more.
+#[inline(always)]
 fn play_tail<F: Fabric, K: Sink>(
     machine: &mut Engine<F>,
     tail: &mut Tail,

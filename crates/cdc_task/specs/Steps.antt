@@ -112,23 +112,37 @@ TouchesNothing (instr.Store v site) = ⊥
 TouchesNothing (instr.Storee v site) = ⊥
 TouchesNothing i = Unit {0}
 
-abbrev pub IsOperator : Instr → Type 0
-IsOperator instr.Neg = Unit {0}
-IsOperator instr.Abs = Unit {0}
-IsOperator instr.Not = Unit {0}
-IsOperator instr.Add = Unit {0}
-IsOperator instr.Sub = Unit {0}
-IsOperator instr.Mul = Unit {0}
-IsOperator instr.Div = Unit {0}
-IsOperator instr.Mod = Unit {0}
-IsOperator instr.Min = Unit {0}
-IsOperator instr.Max = Unit {0}
-IsOperator instr.Eq = Unit {0}
-IsOperator instr.Ne = Unit {0}
-IsOperator instr.Lt = Unit {0}
-IsOperator instr.Le = Unit {0}
-IsOperator instr.Gt = Unit {0}
-IsOperator instr.Ge = Unit {0}
-IsOperator instr.And = Unit {0}
-IsOperator instr.Or = Unit {0}
-IsOperator i = ⊥
+-- the operators, and the instructions that few statements have
+abbrev pub IsOperation : Instr → Type 0
+IsOperation (instr.Load v site mark) = ⊥
+IsOperation (instr.Loade v site mark) = ⊥
+IsOperation (instr.Store v site) = ⊥
+IsOperation (instr.Storee v site) = ⊥
+IsOperation (instr.Const number) = ⊥
+IsOperation (instr.Local k) = ⊥
+IsOperation (instr.Setlocal k) = ⊥
+IsOperation (instr.Index v) = ⊥
+IsOperation (instr.Jump by) = ⊥
+IsOperation (instr.Jumpz by) = ⊥
+IsOperation (instr.Dotest by) = ⊥
+IsOperation instr.Doadd = ⊥
+IsOperation instr.Join = ⊥
+IsOperation i = Unit {0}
+
+abbrev pub IsRare : Instr → Type 0
+IsRare instr.Neg = Unit {0}
+IsRare instr.Abs = Unit {0}
+IsRare instr.Not = Unit {0}
+IsRare instr.Doinit = Unit {0}
+IsRare instr.Take = Unit {0}
+IsRare instr.RecordEnd = Unit {0}
+IsRare instr.Put = Unit {0}
+IsRare instr.Gap = Unit {0}
+IsRare (instr.Text number) = Unit {0}
+IsRare instr.Line = Unit {0}
+IsRare (instr.Arg v) = Unit {0}
+IsRare (instr.Call unit) = Unit {0}
+IsRare instr.Return = Unit {0}
+IsRare (instr.Fork number by) = Unit {0}
+IsRare instr.Halt = Unit {0}
+IsRare i = ⊥

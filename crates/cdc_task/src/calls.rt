@@ -13,6 +13,7 @@ use cdc_prog::{Var, iterations};
 
 impl Task {
     // Adds the object for which a variable stands to the arguments.
+    #[inline(never)]
     pub(crate) fn pass(&mut self, var: Var) -> StepEnd
         requires place { self.old.pc < 2 ^ 63 }
         requires fit { Fits (Arg var) self.old }
@@ -25,6 +26,7 @@ impl Task {
     }
 
     // Calls a unit with the arguments.
+    #[inline(never)]
     pub(crate) fn call(&mut self, code: &Code, unit: u32) -> StepEnd
         requires place { self.old.pc < 2 ^ 63 }
         requires fit { (line : ℕ) × (words : ℕ) × (records : Input) × FitsIn words records (does code.now (Call unit) line) self.old }
@@ -35,6 +37,7 @@ impl Task {
     }
 
     // Goes back to where the unit was called.
+    #[inline(never)]
     pub(crate) fn return_back(&mut self) -> StepEnd
         requires fit { Fits Return self.old }
         ensures { Ends Return self.old result self.new }
@@ -47,6 +50,7 @@ impl Task {
     }
 
     // Pops the controls of a DOALL, and forks its iterations.
+    #[inline(never)]
     pub(crate) fn fork_doall(&mut self, number: u32, by: i32, line: u32) -> StepEnd
         requires place { self.old.pc < 2 ^ 63 }
         requires fit { FitsAt (Fork number by) line self.old }

@@ -13,6 +13,7 @@ use crate::task::Task;
 use cdc_prog::{BinOp, binary, turns};
 
 // A place that is so much further.
+#[inline(always)]
 pub fn moved(pc: usize, by: i32) -> usize
     requires { pc < 2 ^ 63 }
     ensures { result ≡ moved pc by }
@@ -26,6 +27,7 @@ pub fn moved(pc: usize, by: i32) -> usize
 
 impl Task {
     // Goes on at a place that is so much further.
+    #[inline(always)]
     pub(crate) fn jump(&mut self, by: i32) -> StepEnd
         requires place { self.old.pc < 2 ^ 63 }
         ensures { Ends (Jump by) self.old result self.new }
@@ -35,6 +37,7 @@ impl Task {
     }
 
     // Pops a value, and goes on there where it is 0.
+    #[inline(always)]
     pub(crate) fn jump_on_zero(&mut self, by: i32) -> StepEnd
         requires place { self.old.pc < 2 ^ 63 }
         requires fit { Fits (Jumpz by) self.old }
@@ -49,6 +52,7 @@ impl Task {
     }
 
     // Pops the controls of a loop, opens it, and pushes its first value.
+    #[inline(never)]
     pub(crate) fn open_loop(&mut self, line: u32) -> StepEnd
         requires place { self.old.pc < 2 ^ 63 }
         requires fit { FitsAt Doinit line self.old }
@@ -69,6 +73,7 @@ impl Task {
     }
 
     // Begins a turn of the innermost loop; where none is left, closes the loop and goes on elsewhere.
+    #[inline(always)]
     pub(crate) fn test_loop(&mut self, by: i32) -> StepEnd
         requires place { self.old.pc < 2 ^ 63 }
         requires fit { Fits (Dotest by) self.old }
@@ -86,6 +91,7 @@ impl Task {
     }
 
     // Adds the step of the innermost loop to the top of the stack.
+    #[inline(always)]
     pub(crate) fn raise(&mut self, line: u32) -> StepEnd
         requires place { self.old.pc < 2 ^ 63 }
         requires fit { FitsAt Doadd line self.old }

@@ -13,6 +13,7 @@ use cdc_prog::{Mark, Var};
 
 impl Task {
     // Pushes the word of a scalar.
+    #[inline(always)]
     pub(crate) fn load<P: Port>(
         &mut self,
         code: &Code,
@@ -33,6 +34,7 @@ impl Task {
     }
 
     // Pops the number of an element, and pushes its word.
+    #[inline(always)]
     pub(crate) fn load_element<P: Port>(
         &mut self,
         code: &Code,
@@ -57,6 +59,7 @@ impl Task {
     }
 
     // Pops a value, and writes it to a scalar.
+    #[inline(always)]
     pub(crate) fn store<P: Port>(&mut self, code: &Code, port: &mut P, var: Var) -> StepEnd
         requires place { self.old.pc < 2 ^ 63 }
         requires small { P.words port.old < 2 ^ 32 }
@@ -73,6 +76,7 @@ impl Task {
     }
 
     // Pops a value and the number of an element, and writes the value there.
+    #[inline(always)]
     pub(crate) fn store_element<P: Port>(&mut self, code: &Code, port: &mut P, var: Var) -> StepEnd
         requires place { self.old.pc < 2 ^ 63 }
         requires small { P.words port.old < 2 ^ 32 }

@@ -3,25 +3,30 @@
 ghost use Rattle.std.specs.Prelude.{◌<◌, ◌^◌, ℕ};
 ghost use Rattle.cdc_prog.specs.Input.{Input};
 ghost use Rattle.cdc_code.specs.Rows.{unary_act, binary_act};
-ghost use Rattle.cdc_task.specs.Steps.{FitsIn, EndsOn, FitsAt, EndsAt, IsOperator};
+ghost use Rattle.cdc_task.specs.Steps.{FitsIn, EndsOn, IsOperation, IsRare, does};
 
 use crate::end::StepEnd;
 use crate::task::Task;
-use cdc_code::Instr;
+use cdc_base::List;
+use cdc_code::{Code, Instr};
 use cdc_prog::{BinOp, UnOp, binary, unary};
 
 impl Task {
-    // An operator.
-    pub(crate) fn operate(&mut self, instr: Instr, line: u32) -> StepEnd
+    // An operator of two operands, or another instruction that few statements have.
+    #[inline(always)]
+    pub(crate) fn operate(
+        &mut self,
+        code: &Code,
+        records: &[List<i64>],
+        instr: Instr,
+        line: u32,
+    ) -> StepEnd
         requires place { self.old.pc < 2 ^ 63 }
-        requires kind { IsOperator instr }
-        requires fit { FitsAt instr line self.old }
-        ensures { EndsAt instr line self.old result self.new }
+        requires kind { IsOperation instr }
+        requires fit { (words : ℕ) × FitsIn words records.now (does code.now instr line) self.old }
+        ensures { EndsOn records.now (does code.now instr line) self.old result self.new }
     {
         match instr {
-            Instr::Neg => self.apply_unary(UnOp::Neg, line),
-            Instr::Abs => self.apply_unary(UnOp::Abs, line),
-            Instr::Not => self.apply_unary(UnOp::Not, line),
             Instr::Add => self.apply_binary(BinOp::Add, line),
             Instr::Sub => self.apply_binary(BinOp::Sub, line),
             Instr::Mul => self.apply_binary(BinOp::Mul, line),
@@ -37,12 +42,13 @@ impl Task {
             Instr::Ge => self.apply_binary(BinOp::Ge, line),
             Instr::And => self.apply_binary(BinOp::And, line),
             Instr::Or => self.apply_binary(BinOp::Or, line),
-            _ => unreachable!(),
+            _ => self.go_on_rarely(code, records, instr, line),
         }
     }
 
     // An operator of one operand.
-    fn apply_unary(&mut self, op: UnOp, line: u32) -> StepEnd
+    #[inline(never)]
+    pub(crate) fn apply_unary(&mut self, op: UnOp, line: u32) -> StepEnd
         requires place { self.old.pc < 2 ^ 63 }
         requires fit { (words : ℕ) × (records : Input) × FitsIn words records (unary_act op line) self.old }
         ensures { (records : Input) → EndsOn records (unary_act op line) self.old result self.new }
@@ -61,6 +67,7 @@ impl Task {
     }
 
     // An operator of two operands.
+    #[inline(always)]
     fn apply_binary(&mut self, op: BinOp, line: u32) -> StepEnd
         requires place { self.old.pc < 2 ^ 63 }
         requires fit { (words : ℕ) × (records : Input) × FitsIn words records (binary_act op line) self.old }

@@ -4,7 +4,7 @@ ghost use Rattle.std.specs.Prelude.{◌≡◌, ◌<◌, ◌^◌, ℕ, List as It
 ghost use Rattle.cdc_prog.specs.Input.{Input};
 ghost use Rattle.cdc_code.specs.Rows.{act};
 ghost use Rattle.cdc_task.specs.Held.{frame_of};
-ghost use Rattle.cdc_task.specs.Steps.{GoesOn, NamesRight, Stepped, FitsIn, EndsOn, StepsOn, FitsAt, EndsAt, TouchesNothing, IsOperator, does};
+ghost use Rattle.cdc_task.specs.Steps.{GoesOn, NamesRight, Stepped, FitsIn, EndsOn, StepsOn, TouchesNothing, IsOperation, IsRare, does};
 
 use crate::end::StepEnd;
 use crate::port::Port;
@@ -18,6 +18,7 @@ impl Task {
     /// One instruction of the code for which the task was made. The task stands in a frame that goes on or ends: one
     /// that sound code comes to. The one access that the instruction makes is a call of the port, and else the port
     /// stays.
+    #[inline(always)]
     pub fn step<P: Port>(&mut self, code: &Code, records: &InputRecords, port: &mut P) -> StepEnd
         requires goes { (path : Items ℕ) × GoesOn code.now (frame_of path records.now.records self.old) }
         requires words { P.words port.old ≡ code.now.words }
@@ -38,6 +39,7 @@ impl Task {
     }
 
     // An instruction: those that touch memory, and the others.
+    #[inline(always)]
     fn carry_out<P: Port>(
         &mut self,
         code: &Code,
@@ -63,6 +65,7 @@ impl Task {
     }
 
     // An instruction that touches no memory.
+    #[inline(always)]
     fn go_on(&mut self, code: &Code, records: &[List<i64>], instr: Instr, line: u32) -> StepEnd
         requires place { self.old.pc < 2 ^ 63 }
         requires kind { TouchesNothing instr }
@@ -77,9 +80,32 @@ impl Task {
             Instr::Index(var) => self.index(code, var, line),
             Instr::Jump(by) => self.jump(by),
             Instr::Jumpz(by) => self.jump_on_zero(by),
-            Instr::Doinit => self.open_loop(line),
             Instr::Dotest(by) => self.test_loop(by),
             Instr::Doadd => self.raise(line),
+            Instr::Join => StepEnd::Joined,
+            _ => self.operate(code, records, instr, line),
+        }
+    }
+
+    // An instruction that few statements have.
+    #[inline(always)]
+    pub(crate) fn go_on_rarely(
+        &mut self,
+        code: &Code,
+        records: &[List<i64>],
+        instr: Instr,
+        line: u32,
+    ) -> StepEnd
+        requires place { self.old.pc < 2 ^ 63 }
+        requires kind { IsRare instr }
+        requires fit { (words : ℕ) × FitsIn words records.now (does code.now instr line) self.old }
+        ensures { EndsOn records.now (does code.now instr line) self.old result self.new }
+    {
+        match instr {
+            Instr::Neg => self.apply_unary(UnOp::Neg, line),
+            Instr::Abs => self.apply_unary(UnOp::Abs, line),
+            Instr::Not => self.apply_unary(UnOp::Not, line),
+            Instr::Doinit => self.open_loop(line),
             Instr::Take => self.push_input(records, line),
             Instr::RecordEnd => self.skip_record(records, line),
             Instr::Put => self.put(),
@@ -90,9 +116,8 @@ impl Task {
             Instr::Call(unit) => self.call(code, unit),
             Instr::Return => self.return_back(),
             Instr::Fork(number, by) => self.fork_doall(number, by, line),
-            Instr::Join => StepEnd::Joined,
             Instr::Halt => StepEnd::Halted,
-            _ => self.operate(instr, line),
+            _ => unreachable!(),
         }
     }
 }

@@ -13,6 +13,7 @@ use cdc_prog::Piece;
 
 impl Task {
     // Pushes the next value of the input.
+    #[inline(never)]
     pub(crate) fn push_input(&mut self, records: &[List<i64>], line: u32) -> StepEnd
         requires place { self.old.pc < 2 ^ 63 }
         requires fit { (code : CodeOf) × (words : ℕ) × FitsIn words records.now (does code Take line) self.old }
@@ -29,6 +30,7 @@ impl Task {
     }
 
     // Skips the rest of the record.
+    #[inline(never)]
     pub(crate) fn skip_record(&mut self, records: &[List<i64>], line: u32) -> StepEnd
         requires place { self.old.pc < 2 ^ 63 }
         ensures { (code : CodeOf) → EndsOn records.now (does code RecordEnd line) self.old result self.new }
@@ -43,6 +45,7 @@ impl Task {
     }
 
     // Pops a number and prints it.
+    #[inline(never)]
     pub(crate) fn put(&mut self) -> StepEnd
         requires place { self.old.pc < 2 ^ 63 }
         requires fit { Fits Put self.old }
@@ -56,6 +59,7 @@ impl Task {
     }
 
     // Prints a piece.
+    #[inline(never)]
     pub(crate) fn say(&mut self, piece: Piece) -> StepEnd
         requires place { self.old.pc < 2 ^ 63 }
         ensures { Says piece self.old result self.new }

@@ -90,6 +90,7 @@ impl Task {
     }
 
     // The place in the code.
+    #[inline(always)]
     pub(crate) fn pc(&self) -> usize
         ensures { result ≡ self.now.pc }
     {
@@ -97,6 +98,7 @@ impl Task {
     }
 
     // Goes on at a place.
+    #[inline(always)]
     pub(crate) fn go_to(&mut self, pc: usize)
         ensures { self.new ≡ with_pc pc self.old }
     {
@@ -104,6 +106,7 @@ impl Task {
     }
 
     // Goes on at the next instruction.
+    #[inline(always)]
     pub(crate) fn advance(&mut self)
         requires { self.old.pc < 2 ^ 63 }
         ensures { self.new ≡ with_pc (self.old.pc + 1) self.old }
@@ -120,6 +123,7 @@ impl Task {
         self.after = after;
     }
 
+    #[inline(always)]
     pub(crate) fn push(&mut self, value: i64)
         requires { length self.old.stack < STACK_SIZE }
         ensures { self.new ≡ with_stack (value ∷ self.old.stack) self.old }
@@ -127,6 +131,7 @@ impl Task {
         self.stack.push(value);
     }
 
+    #[inline(always)]
     pub(crate) fn pop(&mut self) -> Option<i64>
         ensures { Popped self.old result self.new }
     {
@@ -144,6 +149,7 @@ impl Task {
     }
 
     // So many numbers of the stack from its top, the lowest first.
+    #[inline(always)]
     pub(crate) fn top(&self, count: usize) -> &[i64]
         requires { count ≤ length self.now.stack }
         ensures { (go : Items ℤ → Items ℤ → Act Frame) → pops count [] self.now.stack go ≡ go result.now (drop count self.now.stack) }
@@ -153,6 +159,7 @@ impl Task {
     }
 
     // Takes so many numbers from the stack.
+    #[inline(always)]
     pub(crate) fn drop_top(&mut self, count: usize)
         requires { count ≤ length self.old.stack }
         ensures { self.new ≡ with_stack (drop count self.old.stack) self.old }
@@ -161,6 +168,7 @@ impl Task {
     }
 
     // Opens a loop.
+    #[inline(always)]
     pub(crate) fn open(&mut self, turns: Open)
         requires { length self.old.loops < LOOPS_SIZE }
         ensures { self.new ≡ with_loops (loop_of turns ∷ self.old.loops) self.old }
@@ -169,6 +177,7 @@ impl Task {
     }
 
     // Takes the innermost loop away.
+    #[inline(always)]
     pub(crate) fn close(&mut self) -> Option<Open>
         ensures closed { Closed self.old result self.new }
         ensures room { OnSome result (length self.new.loops < LOOPS_SIZE) }
@@ -177,6 +186,7 @@ impl Task {
         self.loops.pop()
     }
 
+    #[inline(always)]
     pub(crate) fn innermost(&self) -> Option<Open>
         ensures { IsInnermost self.now.loops result }
     {
@@ -185,6 +195,7 @@ impl Task {
     }
 
     // The value of a slot.
+    #[inline(always)]
     pub(crate) fn slot(&self, k: u32) -> i64
         requires { k < SLOTS_SIZE }
         ensures { result ≡ store_of self.now.slots k }
@@ -193,6 +204,7 @@ impl Task {
     }
 
     // Stores a value in a slot.
+    #[inline(always)]
     pub(crate) fn set_slot(&mut self, k: u32, value: i64)
         requires { k < SLOTS_SIZE }
         ensures stored { store_of self.new.slots ≡ put (store_of self.old.slots) k value }
@@ -256,6 +268,7 @@ impl Task {
     }
 
     // The number of the object for which a variable stands.
+    #[inline(always)]
     pub(crate) fn object(&self, var: Var) -> u32
         ensures { (code : CodeOf) (path : Items ℕ) → result ≡ object_of (binding_at code (kept_of path self.now)) var }
     {
@@ -267,6 +280,7 @@ impl Task {
     }
 
     // The first word of a variable.
+    #[inline(always)]
     pub(crate) fn base(&self, code: &Code, var: Var) -> u32
         ensures { (path : Items ℕ) → result ≡ base_of (binding_at code.now (kept_of path self.now)) var }
     {
@@ -277,6 +291,7 @@ impl Task {
     }
 
     // The dimensions of a variable; none for a scalar.
+    #[inline(always)]
     pub(crate) fn dims<'a>(&self, code: &'a Code, var: Var) -> &'a [Dim]
         ensures { result.now ≡ dims_at code.now.objects (get_or code.now.shapes self.now.unit []) var }
     {
@@ -305,6 +320,7 @@ fn dummy_dims(code: &Code, unit: u32, dummy: u32) -> &[Dim]
 }
 
 // The slots with which an iteration begins.
+#[inline(always)]
 fn first_slots(index: i64) -> [i64; SLOTS]
     ensures { store_of result ≡ put zeros 0 index }
 {

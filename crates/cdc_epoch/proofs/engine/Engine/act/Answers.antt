@@ -1,14 +1,18 @@
-use Rattle.std.proofs.Common.{refl, ◌∙◌, sym, subst, ◌<◌}
-use Rattle.cdc_epoch.proofs.Applies.{counted}
+use Rattle.std.proofs.Common.{refl, sym, subst, ◌<◌}
+use Rattle.cdc_epoch.proofs.Applies.{with_count, counted, counted_can, held_counted}
 use Rattle.cdc_epoch.proofs.engine.Engine.act.Goals as goal
 
-pub count-requires : goal.count-requires
-count-requires g c =
+pub carry_out-requires : goal.carry_out-requires
+carry_out-requires g c =
+    let old = c.args.self.now in
     let h = c.requires.held in
-    let a = c.carry_out-effect.ensures h.0 h.1 h.2 h.3 in
-    subst (λ n. c.args.p < n) (sym (c.carry_out-effect.new.self.counted ∙ a.stays.procs)) c.requires.proc
+    record {
+      proc = c.requires.proc;
+      held = (with_count h.0 c.args.p, h.1, counted_can g.F.Fabric old _ h.0 c.args.p refl refl refl c.count.ensures refl c.requires.proc old.counted h.2, held_counted h.0 c.args.p c.args.p c.args.i h.1 h.3);
+    }
 
 pub returns : goal.returns
 returns g c = λ m at can held.
-    let a = c.carry_out-effect.ensures m at can held in
-    counted g.F.Fabric c.args.self.now c.carry_out-effect.new.self _ m c.args.p c.args.i at c.carry_out-effect.result refl refl refl c.count.ensures refl (subst (λ n. c.args.p < n) (sym a.stays.procs) c.requires.proc) c.carry_out-effect.new.self.counted a
+    let old = c.args.self.now in
+    counted g.F.Fabric old _ m c.args.p c.args.i at refl refl refl c.carry_out.result c.carry_out.new.self
+    (c.carry_out.ensures (with_count m c.args.p) at (counted_can g.F.Fabric old _ m c.args.p refl refl refl c.count.ensures refl c.requires.proc old.counted can) (held_counted m c.args.p c.args.p c.args.i at held))
