@@ -1,0 +1,16 @@
+pub mod Along
+pub mod Trees
+pub mod Tasks
+pub mod Counts
+pub mod Ranges
+pub mod Words
+pub mod InSections
+pub mod Meet
+pub mod Told
+pub mod Sites
+pub mod Values
+pub mod Held
+pub mod InCovers
+pub mod Accessed
+pub mod Raised
+pub mod Examples

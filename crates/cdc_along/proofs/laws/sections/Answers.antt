@@ -1,0 +1,9 @@
+use Rattle.cdc_along.proofs.InSections.{program_in_sections}
+use Rattle.cdc_along.proofs.Meet.{meet}
+use Rattle.cdc_along.proofs.laws.sections.Goals as goal
+
+pub returns-clause-hold : goal.returns-clause-hold
+returns-clause-hold c = program_in_sections
+
+pub returns-clause-overlap : goal.returns-clause-overlap
+returns-clause-overlap c = meet

@@ -1,0 +1,6 @@
+pub mod Along
+pub mod Tasks
+pub mod Sections
+pub mod Sites
+pub mod Laws
+pub mod Examples
