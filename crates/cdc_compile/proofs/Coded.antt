@@ -1,5 +1,5 @@
 -- The code of an accepted program is sound.
-use Rattle.std.proofs.Common.{◌≡◌, refl, subst, sym}
+use Rattle.std.proofs.Common.{◌≡◌, refl, subst, sym, ◌∙◌, ap₂}
 use Rattle.cdc_prog.specs.declared.program.Marks.{Marks}
 use Rattle.cdc_prog.specs.Plain.{Program}
 use Rattle.cdc_prog.specs.Input.{Input}
@@ -23,3 +23,7 @@ sound_code p marks premises apart numbered room = record {
 -- the same of code that is known to be its code
 pub emitted_sound : (p : Program) (marks : Marks) (code : Code) → KeepsPremises p → ((records : Input) → IsApart (process_of p records)) → HasCallNumbers p → HasRoom p → code ≡ code_of p marks → IsSoundCodeOf p marks code
 emitted_sound p marks code premises apart numbered room is = subst (λ (c : Code). IsSoundCodeOf p marks c) (sym is) (sound_code p marks premises apart numbered room)
+
+-- code that is sound as that of a program with marks is its code
+pub sound_is_code : (p : Program) (marks : Marks) (code : Code) → IsSoundCodeOf p marks code → code ≡ code_of p marks
+sound_is_code p marks code s = s.sound.is_code ∙ ap₂ code_of s.program_is s.marks_are

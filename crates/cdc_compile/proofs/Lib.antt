@@ -6,6 +6,7 @@ pub mod Nested
 pub mod OneUnits
 pub mod OneLines
 pub mod OneAnswer
+pub mod OneCode
 pub mod Narrow
 pub mod Waiting
 pub mod Standing

@@ -14,9 +14,10 @@ use Rattle.cdc_names.specs.Scopes.{PScope}
 use Rattle.cdc_check.specs.Threads.{each, next}
 use Rattle.cdc_check.specs.Units.{Whole, unit_in, units_from, nothing_yet}
 use Rattle.cdc_check.proofs.Accepted.{accepted_keeps_premises, accepted_calls_nothing, accepted_doalls_numbered}
+use Rattle.cdc_along.proofs.InSections.{program_in_sections}
+use Rattle.cdc_along.proofs.Trees.{program_along}
 use Rattle.cdc_code.specs.Template.{HasCallNumbers, code_of}
 use Rattle.cdc_compile.specs.Source.{HasBuiltUnits}
-use Rattle.cdc_compile.specs.Compiled.{ordinary_marks}
 use Rattle.cdc_compile.specs.Laws.{AcceptedIsSound}
 use Rattle.cdc_compile.proofs.Nested.{are_built}
 use Rattle.cdc_compile.proofs.RoomLaws.{Passed, passed, has_room, numbers}
@@ -57,5 +58,7 @@ accepted_is_sound source p h =
       premises = premises;
       calls = calls;
       bare = subst Bare (sym done.units_are) (numbered_bare 0 _ (units_bare 0 us _ nothing_yet));
-      sound = emitted_sound p (ordinary_marks p.sites p.doalls) (code_of p (ordinary_marks p.sites p.doalls)) premises apart numbered (has_room source p h.0) refl;
+      sound = λ marks. emitted_sound p marks (code_of p marks) premises apart numbered (has_room source p h.0) refl;
+      along = λ records s. program_along p records s premises.resolved;
+      sections = λ records s. program_in_sections p records s premises.resolved calls premises.loops premises.indexes;
     }

@@ -1,29 +1,18 @@
--- The texts of the answers to a source: each is one line that ends with a line feed.
-use Rattle.std.specs.Prelude.{ℕ, List, [], ◌∷◌, ◌++◌, length, codes, pos}
+-- The texts of refusals: each is one line that ends with a line feed.
+use Rattle.std.specs.Prelude.{ℕ, List, [], ◌∷◌, codes}
 use Rattle.cdc_base.specs.declared.place.Place.{Place}
-use Rattle.cdc_num.specs.Decimal.{decimal_bytes}
 use Rattle.cdc_token.specs.declared.token.LexRefusal.{LexRefusal}
 use Rattle.cdc_token.specs.declared.token.LexRefusal.TheVariants as l
 use Rattle.cdc_tree.specs.declared.refusal.ParseRefusal.{ParseRefusal}
 use Rattle.cdc_tree.specs.declared.refusal.ParseRefusal.TheVariants as p
-use Rattle.cdc_prog.specs.declared.program.Program.{Program}
 use Rattle.cdc_prog.specs.declared.program.Kind.{Kind}
 use Rattle.cdc_prog.specs.declared.program.Kind.TheVariants as k
 use Rattle.cdc_prog.specs.Limits.{limit}
+use Rattle.cdc_text.specs.Texts.{number, line}
 use Rattle.cdc_check.specs.declared.refusal.CheckRefusal.{CheckRefusal}
 use Rattle.cdc_check.specs.declared.refusal.CheckRefusal.TheVariants as c
 use Rattle.cdc_compile.specs.declared.refusal.Refusal.{Refusal}
 use Rattle.cdc_compile.specs.declared.refusal.Refusal.TheVariants.{Lex, Parse, Check, Conflict, Memory}
-
-abbrev pub number : ℕ → List ℕ
-number n = decimal_bytes (pos n)
-
--- texts one after another, and the line end
-abbrev pub line : List (List ℕ) → List ℕ
-line [] = 10 ∷ []
-line (text ∷ texts) = text ++ line texts
-
--- ---- refusals
 
 abbrev pub at_place : List ℕ → Place → List ℕ
 at_place name at = line (codes "refused " ∷ name ∷ codes " at " ∷ number at.line ∷ codes ":" ∷ number at.column ∷ [])
@@ -86,10 +75,3 @@ refusal_text (Parse refusal) = parse_text refusal
 refusal_text (Check refusal) = check_text refusal
 refusal_text (Conflict at other) = at_places (codes "Conflict") at other
 refusal_text Memory = []
-
--- ---- the other answer
-
-abbrev pub accepted_text : Program → List ℕ
-accepted_text program = line (
-    codes "accepted units " ∷ number (length program.units) ∷ codes " objects " ∷ number (length program.objects)
-    ∷ codes " words " ∷ number program.words ∷ codes " sites " ∷ number program.sites ∷ codes " doalls " ∷ number program.doalls ∷ [])

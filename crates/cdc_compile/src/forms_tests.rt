@@ -6,7 +6,7 @@ use std::alloc::Global;
 use std::test::Fail;
 
 /// No object, no access.
-const BARE: &str = "accepted units 1 objects 0 words 0 sites 0 doalls 0\n";
+const BARE: &str = "1 0 0 0 0\n";
 
 const NO_STATEMENT: &str = "refused NotAStatement at line 2\n";
 
@@ -48,7 +48,7 @@ const SOURCES: [(&str, &str); 24] = [
     ),
     (
         "PROGRAM P\nIMPLICIT NONE\nINTEGER :: I, A(0:1)\nDO I = 0, 1, 1\nIF (I < 1) THEN\nELSE IF (I < 2) THEN\nA(I) = 1\nELSEIF (I < 3) THEN\nELSE\nEND IF\nENDDO\nEND\n",
-        "accepted units 1 objects 2 words 3 sites 8 doalls 0\n",
+        "1 2 3 8 0\n",
     ),
     ("PROGRAM P\n", "refused Nesting at line 1\n"),
     ("N = 1\n", "refused Nesting at line 1\n"),
@@ -124,7 +124,7 @@ fn answer(alloc: Global, source: &str) -> Result<MemSink, Fail> {
 }
 
 /// A source of some pieces between a head and a tail.
-fn repeated(
+pub(crate) fn repeated(
     alloc: Global,
     head: &str,
     count: u32,
@@ -166,7 +166,7 @@ fn depth_has_its_limits(rt: HostRuntime) -> Result<(), Fail> {
             "1&\n",
             ")&\n",
             "+ 1\nEND\n",
-            "accepted units 1 objects 1 words 1 sites 1 doalls 0\n",
+            "1 1 1 1 0\n",
         ),
         (
             65,

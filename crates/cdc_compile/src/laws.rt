@@ -1,13 +1,15 @@
 //! What holds of the answers to a source.
 
-ghost use Rattle.cdc_compile.specs.Laws.{HasOneAnswer, AcceptedIsSound};
+ghost use Rattle.cdc_compile.specs.Laws.{HasOneAnswer, IsCompiledOnce, AcceptedIsSound};
 
-/// Want of memory aside, a source has one answer.
+/// Want of memory aside, a source has one answer, and what it is compiled to is one.
 pub fn one_answer()
-    ensures { HasOneAnswer }
+    ensures answer { HasOneAnswer }
+    ensures compiled { IsCompiledOnce }
 {}
 
-/// The code of an accepted source is sound.
+/// The code of an accepted source is sound, and its program goes along the paths by which its marks are defined, with each
+/// access in the section of its site.
 pub fn accepted_sources()
     ensures { AcceptedIsSound }
 {}

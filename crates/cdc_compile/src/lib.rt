@@ -1,13 +1,14 @@
-//! The compiler from a source to its resolved program and its code, and the texts of its answers.
+//! The compiler from a source to its resolved program, its marks and its code, and the texts of its refusals.
 #![tactic(auto)]
 
-mod accepted;
 mod compiled;
 #[cfg(test)]
 mod compiled_tests;
 #[cfg(test)]
 mod forms_tests;
 mod laws;
+#[cfg(test)]
+mod marks_tests;
 mod refusal;
 mod refused;
 mod source;
@@ -15,7 +16,6 @@ mod source;
 mod tests;
 mod unbuilt;
 
-pub use accepted::write_accepted;
 pub use compiled::{Compiled, compile};
 pub use laws::{accepted_sources, one_answer};
 pub use refusal::Refusal;

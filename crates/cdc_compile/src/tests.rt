@@ -1,21 +1,40 @@
 //! What no clause says: that calls succeed where memory is there, and the printed texts.
 
-use crate::{Refusal, program, write_accepted, write_refusal};
+use crate::{Refusal, program, write_refusal};
 use cdc_base::{MemSink, Place, SinkFault};
-use cdc_text::write_words;
+use cdc_prog::Program;
+use cdc_text::{Text, write_texts, write_words};
 use cdc_token::LexRefusal;
 use std::alloc::Global;
 use std::test::Fail;
 
 const ONE: &str = "PROGRAM ONE\nN = 2 + 3\nPRINT *, N + 1\nEND\n";
 
+// The numbers of units, objects, words, sites and DOALL loops.
+fn write_numbers(program: &Program, out: &mut MemSink) -> Result<(), SinkFault> {
+    let texts = [
+        Text::Number(program.units.as_slice().len() as u64),
+        Text::Words(b" "),
+        Text::Number(program.objects.as_slice().len() as u64),
+        Text::Words(b" "),
+        Text::Number(program.words as u64),
+        Text::Words(b" "),
+        Text::Number(program.sites as u64),
+        Text::Words(b" "),
+        Text::Number(program.doalls as u64),
+        Text::Words(b"\n"),
+    ];
+    write_texts(out, &texts)
+}
+
+/// Writes the numbers of the program of a source, or its refusal.
 pub(crate) fn write_answer(
     alloc: Global,
     source: &[u8],
     out: &mut MemSink,
 ) -> Result<(), SinkFault> {
     match program(alloc, source) {
-        Ok(program) => write_accepted(&program, out),
+        Ok(program) => write_numbers(&program, out),
         Err(Refusal::Memory) => write_words(out, b"out of memory\n"),
         Err(refusal) => write_refusal(&refusal, out),
     }
@@ -114,23 +133,20 @@ fn sources_are_answered(rt: HostRuntime) -> Result<(), Fail> {
         ),
         (
             "PROGRAM ONE\nN = 2 + 3\nPRINT *, N + 1\nEND\n",
-            "accepted units 1 objects 1 words 1 sites 2 doalls 0\n",
+            "1 1 1 2 0\n",
         ),
-        (
-            "PROGRAM P\nEND\n",
-            "accepted units 1 objects 0 words 0 sites 0 doalls 0\n",
-        ),
+        ("PROGRAM P\nEND\n", "1 0 0 0 0\n"),
         (
             "PROGRAM P\nINTEGER A(3, 2:5), B\nB = A(1, 2)\nDO K = 1, 2\nA(K, 3) = B + K\nEND DO\nEND\n",
-            "accepted units 1 objects 3 words 14 sites 9 doalls 0\n",
+            "1 3 14 9 0\n",
         ),
         (
             "PROGRAM P\nREAD *, I, J\nIF (I < J .AND. I > 0) PRINT *, 'low', I\nEND\n",
-            "accepted units 1 objects 2 words 2 sites 6 doalls 0\n",
+            "1 2 2 6 0\n",
         ),
         (
             "PROGRAM P\nINTEGER, PARAMETER :: M = 4\nINTEGER A(M)\nA(M) = M\nEND\n",
-            "accepted units 1 objects 1 words 4 sites 1 doalls 0\n",
+            "1 1 4 1 0\n",
         ),
         (
             "PROGRAM C\nINTEGER A(10)\nDOALL I = 1, 9\nA(I) = A(I + 1)\nEND DOALL\nEND\n",
@@ -138,11 +154,11 @@ fn sources_are_answered(rt: HostRuntime) -> Result<(), Fail> {
         ),
         (
             "PROGRAM C\nINTEGER A(19)\nDOALL I = 1, 9\nA(2*I) = A(2*I + 1)\nEND DOALL\nEND\n",
-            "accepted units 1 objects 2 words 20 sites 2 doalls 1\n",
+            "1 2 20 2 1\n",
         ),
         (
             "PROGRAM S\nINTEGER A(10:129)\nDOALL I = 1, 10 PRIVATE(J)\nDO J = 0, 9\nA(10*I + J) = I\nEND DO\nEND DOALL\nEND\n",
-            "accepted units 1 objects 3 words 122 sites 1 doalls 1\n",
+            "1 3 122 1 1\n",
         ),
         (
             "PROGRAM S\nINTEGER A(10:129)\nDOALL I = 1, 10 PRIVATE(J)\nDO J = 0, 10\nA(10*I + J) = I\nEND DO\nEND DOALL\nEND\n",
@@ -206,7 +222,7 @@ fn a_sweep_is_accepted(rt: HostRuntime) -> Result<(), Fail> {
         write_answer(rt.alloc(), JACOBI.as_bytes(), &mut sink),
         Ok(())
     );
-    let text = b"accepted units 1 objects 6 words 8259 sites 21 doalls 3\n";
+    let text = b"1 6 8259 21 3\n";
     assert_eq!(rt; sink.bytes(), text.as_slice());
     Ok(())
 }
@@ -219,8 +235,7 @@ fn a_source_has_its_limit(rt: HostRuntime) -> Result<(), Fail> {
     assert_eq!(rt; write_answer(rt.alloc(), &source, &mut sink), Ok(()));
     source.push(b'\n')?;
     assert_eq!(rt; write_answer(rt.alloc(), &source, &mut sink), Ok(()));
-    let text =
-        b"accepted units 1 objects 1 words 1 sites 2 doalls 0\nrefused TooMany source limit 262144\n";
+    let text = b"1 1 1 2 0\nrefused TooMany source limit 262144\n";
     assert_eq!(rt; sink.bytes(), text.as_slice());
     Ok(())
 }

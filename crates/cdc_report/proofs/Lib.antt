@@ -1,2 +1,4 @@
 pub mod Lines
 pub mod Counted
+pub mod Reached
+pub mod Walks

@@ -10,7 +10,8 @@ use Rattle.cdc_prog.specs.Translation.{unit_of}
 use Rattle.cdc_text.specs.Pieces.{GrewByFront}
 use Rattle.cdc_text.proofs.Pieces.{front_first}
 use Rattle.cdc_text.proofs.Gathers.{hands_on, hands_part}
-use Rattle.cdc_report.specs.Listing.{Named, number, name_of, operands, spaced, step_line, lines_from}
+use Rattle.cdc_text.specs.Texts.{number}
+use Rattle.cdc_report.specs.Listing.{Named, name_of, operands, spaced, step_line, lines_from}
 
 -- one line more
 pub lines_more : (n : Named) (place : ℕ) (ss : List Step) (k : ℕ) (d : Step) → k < length ss → lines_from n place (take (suc k) ss) ≡ lines_from n place (take k ss) ++ step_line n (place + k) (get_or ss k d)

@@ -6,7 +6,7 @@ use Rattle.cdc_fabric.specs.declared.counts.Counts.{Counts}
 use Rattle.cdc_epoch.specs.declared.outcome.Tally.{Tally}
 use Rattle.cdc_epoch.specs.declared.outcome.Outcome.{Outcome}
 use Rattle.cdc_epoch.specs.declared.outcome.Outcome.TheVariants.{Done, Fault, Stopped, BadEvent, ReadFault, SinkFault}
-use Rattle.cdc_report.specs.Listing.{number}
+use Rattle.cdc_text.specs.Texts.{number, line_feed, joined, line}
 
 abbrev pub kind_text : FaultKind → List ℕ
 kind_text Overflow = codes "overflow"
@@ -15,14 +15,6 @@ kind_text Subscript = codes "subscript"
 kind_text ZeroStep = codes "zero step"
 kind_text TripTooLarge = codes "trip too large"
 kind_text InputEnded = codes "input ended"
-
--- texts one after another
-abbrev pub joined : List (List ℕ) → List ℕ
-joined [] = []
-joined (text ∷ texts) = text ++ joined texts
-
-abbrev pub line_feed : List ℕ
-line_feed = 10 ∷ []
 
 -- a run that ended by itself, or was stopped
 abbrev pub HasEnded : Outcome → Type 0
@@ -33,9 +25,9 @@ HasEnded end = Unit {0}
 
 -- the line on such an end
 abbrev pub end_line : Outcome → List ℕ
-end_line Done = joined (codes "= end done" ∷ line_feed ∷ [])
-end_line (Fault kind at) = joined (codes "= end fault " ∷ kind_text kind ∷ codes " at line " ∷ number at ∷ line_feed ∷ [])
-end_line Stopped = joined (codes "= end stopped" ∷ line_feed ∷ [])
+end_line Done = line (codes "= end done" ∷ [])
+end_line (Fault kind at) = line (codes "= end fault " ∷ kind_text kind ∷ codes " at line " ∷ number at ∷ [])
+end_line Stopped = line (codes "= end stopped" ∷ [])
 end_line end = []
 
 -- the boundaries, and the events, with those that were idle
@@ -46,10 +38,10 @@ event_lines boundaries tally bound = joined (
     ∷ codes "= idle " ∷ number tally.idle ∷ line_feed ∷ [])
 
 abbrev pub count_line : (p : ℕ) → Counts → List ℕ
-count_line p counts = joined (
+count_line p counts = line (
     codes "= p" ∷ number p ∷ codes " steps " ∷ number counts.steps ∷ codes " reads " ∷ number counts.reads ∷ codes " ordinary " ∷ number counts.ordinary
     ∷ codes " marked " ∷ number counts.marked ∷ codes " misses " ∷ number counts.misses ∷ codes " evicted " ∷ number counts.evicted
-    ∷ codes " invalidated " ∷ number counts.invalidated ∷ line_feed ∷ [])
+    ∷ codes " invalidated " ∷ number counts.invalidated ∷ [])
 
 -- of each processor in order
 abbrev pub count_lines : (counts : ℕ → Counts) → (procs : ℕ) → List ℕ

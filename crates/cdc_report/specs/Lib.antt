@@ -1,2 +1,4 @@
+pub mod Accepted
 pub mod Listing
 pub mod End
+pub mod MarkLines

@@ -1,5 +1,5 @@
 -- The listing of code: a line for each instruction, with its place from 0, its name and its operands.
-use Rattle.std.specs.Prelude.{ℕ, suc, pos, List, [], ◌∷◌, ◌++◌, map, codes, Option, Some, None, slice_get, unwrap_or}
+use Rattle.std.specs.Prelude.{ℕ, suc, List, [], ◌∷◌, ◌++◌, map, codes, Option, Some, None, slice_get, unwrap_or}
 use Rattle.cdc_num.specs.Decimal.{decimal_bytes}
 use Rattle.cdc_prog.specs.declared.expr.Var.{Var}
 use Rattle.cdc_prog.specs.declared.expr.Var.TheVariants.{Object as AnObject, Dummy, Slot}
@@ -7,13 +7,11 @@ use Rattle.cdc_prog.specs.declared.program.Mark.{Mark}
 use Rattle.cdc_prog.specs.declared.program.Mark.TheVariants.{Ordinary, Time}
 use Rattle.cdc_prog.specs.declared.program.Object.{Object}
 use Rattle.cdc_prog.specs.Plain.{Program}
+use Rattle.cdc_text.specs.Texts.{number}
 use Rattle.cdc_code.specs.declared.code.Code.{Code}
 use Rattle.cdc_code.specs.declared.instr.Step.{Step}
 use Rattle.cdc_code.specs.declared.instr.Instr.{Instr}
 use Rattle.cdc_code.specs.declared.instr.Instr.TheVariants as i
-
-abbrev pub number : ℕ → List ℕ
-number n = decimal_bytes (pos n)
 
 -- what instructions name: the names of the units, and the objects
 pub record Named : Type 0 where

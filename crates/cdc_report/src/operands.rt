@@ -78,8 +78,8 @@ impl<'a> Named<'a> {
         ]
     }
 
-    // A variable, with a space before it.
-    fn of_variable(&self, var: Var) -> [Text<'a>; 8]
+    /// A variable, with a space before it.
+    pub fn of_variable(&self, var: Var) -> [Text<'a>; 8]
         ensures { texts_bytes result ≡ spaced (variable self.now var ∷ []) }
     {
         let [unit, point, name] = self.variable(var);

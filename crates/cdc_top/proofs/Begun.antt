@@ -3,22 +3,19 @@ use Rattle.std.proofs.Common.{◌≡◌, ℕ, ◌<◌, List, [], refl, ap, sym, 
 use Rattle.std.specs.Prelude.{Ok, Err, Result, IfOk}
 use Rattle.cdc_base.specs.declared.memory.NoMemory.{NoMemory}
 use Rattle.cdc_code.specs.declared.code.Code.{Code}
-use Rattle.cdc_compile.specs.Source.{IsProgramOf}
 use Rattle.cdc_fabric.specs.Counting.{no_counts}
 use Rattle.cdc_fabric.specs.UncachedSteps.{uncached_procs, uncached_words, uncached_counts}
 use Rattle.cdc_fabric.specs.contracts.uncached.UncachedFabric.TheImpl.{ghosts}
 use Rattle.cdc_fabric.specs.declared.uncached.Uncached.{Uncached}
 use Rattle.cdc_input.specs.declared.file.InputRecords.{InputRecords}
 use Rattle.cdc_prog.specs.Input.{Input}
-use Rattle.cdc_prog.specs.Plain.{Program}
 use Rattle.cdc_epoch.specs.declared.engine.Engine.{Engine}
 use Rattle.cdc_epoch.specs.Ties.{StandsFor}
 use Rattle.cdc_replay.specs.Direct.{HasNoCounts}
-use Rattle.cdc_top.specs.Answer.{compiled_code}
-use Rattle.cdc_top.specs.Run.{IsBegun}
+use Rattle.cdc_top.specs.Loaded.{IsCompiledCode, IsBegun}
 use Rattle.cdc_top.proofs.Laws.{can_replay}
 
-module _ (source : List ℕ) (p : Program) (is : IsProgramOf source (Ok p)) (code : Code) (records : InputRecords) (procs : ℕ) (memory : Uncached) (compiled : code ≡ compiled_code p)
+module _ (code : Code) (is : IsCompiledCode code) (records : InputRecords) (procs : ℕ) (memory : Uncached)
     (procs_are : uncached_procs memory ≡ procs) (words_are : uncached_words memory ≡ code.words) (none : (q : ℕ) → q < procs → uncached_counts memory q ≡ no_counts) where
   begun : (engine : Engine Uncached ghosts) → engine.code ≡ code → engine.records ≡ records → engine.side ≡ memory → StandsFor ghosts engine [] → IsBegun code records.records procs engine
   begun engine code_is records_are side_is first = record {
@@ -28,7 +25,7 @@ module _ (source : List ℕ) (p : Program) (is : IsProgramOf source (Ok p)) (cod
     words_are = ap uncached_words side_is ∙ words_are;
     first = first;
     counts = subst HasNoCounts (sym side_is) (λ q lt. none q (subst (λ (n : ℕ). q < n) procs_are lt));
-    can = can_replay source p is code engine code_is compiled;
+    can = can_replay is.source is.program is.marks is.compiled engine (code_is ∙ is.code_is);
   }
 
   pub begun_if : (r : Result (Engine Uncached ghosts) NoMemory) → IfOk r (λ e. e.code ≡ code) → IfOk r (λ e. e.records ≡ records) → IfOk r (λ e. e.side ≡ memory) → IfOk r (λ e. StandsFor ghosts e [])

@@ -1,9 +1,11 @@
 -- A call whose files are good is done, where no count rose and memory was there.
 use Rattle.std.proofs.Common.{◌≡◌, ◌⊎◌, ℕ, zero, suc, ◌≤◌, List, length, refl, sym, ap, subst, ◌∙◌, arith, inl, inr}
 use Rattle.std.specs.Prelude.{Option, Some, None, Ok}
-use Rattle.cdc_compile.specs.Source.{IsProgramOf}
+use Rattle.cdc_code.specs.Template.{code_of}
+use Rattle.cdc_compile.specs.Compiled.{IsCompiledTo}
+use Rattle.cdc_prog.specs.declared.program.Marks.{Marks}
 use Rattle.cdc_prog.specs.Plain.{Program}
-use Rattle.cdc_top.specs.Answer.{Command, Run, Ask, Seq, Usage, Files, IsTold, AreTold, Answers, ScheduleAnswers, RunAnswers, SeqAnswers, CheckAnswers, ListingAnswers, ReadFailed, ToolEnded}
+use Rattle.cdc_top.specs.Answer.{Command, Run, Ask, Seq, Usage, Files, IsTold, AreTold, Answers, ScheduleAnswers, RunAnswers, SeqAnswers, CheckAnswers, TextAnswers, listing, ReadFailed, ToolEnded}
 use Rattle.cdc_input.specs.Records.{records_of}
 use Rattle.cdc_sched.specs.declared.header.Header.{Header}
 use Rattle.cdc_sched.proofs.Same.{one_refusal}
@@ -13,8 +15,10 @@ use Rattle.cdc_top.specs.Schedule.{IsSchedule}
 use Rattle.cdc_top.specs.Sequential.{InputIs, IsGoodInput}
 use Rattle.cdc_top.proofs.Laws.{ample_end}
 use Rattle.cdc_top.specs.Status.{IsFinished}
-use Rattle.cdc_top.specs.declared.source.Question.TheVariants.{Check, Listing}
-use Rattle.cdc_top.proofs.One.{none_accepted, one_program}
+use Rattle.cdc_top.specs.declared.source.Question.TheVariants.{Check, Marking, Listing}
+use Rattle.cdc_report.specs.MarkLines.{marks_text}
+use Rattle.cdc_compile.proofs.OneCode.{one_program}
+use Rattle.cdc_top.proofs.One.{none_accepted}
 use Rattle.cdc_top.specs.declared.status.TheConstants.{READ_FAULT, WRITE_FAULT, OUT_OF_MEMORY}
 
 -- a status says that the call ended by itself, or why it did not
@@ -45,24 +49,26 @@ none_failed Usage files before now stayed failed = failed
 
 -- ---- the answers over good files
 -- the run of a schedule that is good
-machine_done : (files : Files) (a : Answer) (p : Program) → IsProgramOf files.program (Ok p) → (h : Header) (at : ℕ) → IsSchedule files.schedule h at → InputIs (ScheduleAnswers p files.schedule) files.input a → IsGoodInput files.input → IsRun files a.status
-machine_done files a p is h at has (inl long) good = absurd (let within : length files.input ≤ 1048576 = good.within in omega (arith, long.0, within))
-machine_done files a p is h at has (inr (inl bad)) good = absurd (good.no_fault bad.0 bad.1.fails.0)
-machine_done files a p is h at has (inr (inr (fine, inl long))) good = absurd (let within : length files.schedule ≤ 16777216 = has.within in omega (arith, long.0, within))
-machine_done files a p is h at has (inr (inr (fine, inr (inl bad)))) good = absurd (one_refusal.not_both files.schedule h at bad.0 has.has bad.1.bad)
-machine_done files a p is h at has (inr (inr (fine, inr (inr (k, to, also, same))))) good = record {
+machine_done : (files : Files) (a : Answer) (p : Program) (m : Marks) → IsCompiledTo files.program p m → (h : Header) (at : ℕ) → IsSchedule files.schedule h at
+    → InputIs (ScheduleAnswers (code_of p m) files.schedule) files.input a → IsGoodInput files.input → IsRun files a.status
+machine_done files a p m is h at has (inl long) good = absurd (let within : length files.input ≤ 1048576 = good.within in omega (arith, long.0, within))
+machine_done files a p m is h at has (inr (inl bad)) good = absurd (good.no_fault bad.0 bad.1.fails.0)
+machine_done files a p m is h at has (inr (inr (fine, inl long))) good = absurd (let within : length files.schedule ≤ 16777216 = has.within in omega (arith, long.0, within))
+machine_done files a p m is h at has (inr (inr (fine, inr (inl bad)))) good = absurd (one_refusal.not_both files.schedule h at bad.0 has.has bad.1.bad)
+machine_done files a p m is h at has (inr (inr (fine, inr (inr (k, to, also, same))))) good = record {
   accepted = p;
-  is_program = is;
+  marks = m;
+  compiled = is;
   header = k;
   at = to;
   is_schedule = also;
   status_is = ap (λ (b : Answer). b.status) same;
-  ends = λ ample. ap (λ (b : Answer). b.status) same ∙ ap status_of (ample_end files.program p is (records_of files.input) files.schedule k to also.has.front.limits.procs ample);
+  ends = λ ample. ap (λ (b : Answer). b.status) same ∙ ap status_of (ample_end files.program p m is (records_of files.input) files.schedule k to also.has.front.limits.procs ample);
 }
 
 run_done : (files : Files) (a : Answer) (program input schedule : List ℕ) → AreGood (Run program input schedule) files → RunAnswers files a → IsDone (Run program input schedule) files a.status
 run_done files a program input schedule good (inl refused) = absurd (none_accepted files.program a good.0.0 refused good.0.1)
-run_done files a program input schedule good (inr (accepted, is, answered)) = machine_done files a accepted is good.2.0 good.2.1 good.2.2 answered good.1
+run_done files a program input schedule good (inr (accepted, marks, is, answered)) = machine_done files a accepted marks is good.2.0 good.2.1 good.2.2 answered good.1
 
 seq_done : (files : Files) (a : Answer) (program input : List ℕ) → AreGood (Seq program input) files → SeqAnswers files.program files.input a → IsDone (Seq program input) files a.status
 seq_done files a program input good (inl refused) = absurd (none_accepted files.program a good.0.0 refused good.0.1)
@@ -74,9 +80,9 @@ check_done : (source : List ℕ) (a : Answer) → HasProgram source → CheckAns
 check_done source a good (inl refused) = absurd (none_accepted source a good.0 refused good.1)
 check_done source a good (inr accepted) = ap (λ (b : Answer). b.status) accepted.2
 
-listing_done : (source : List ℕ) (a : Answer) → HasProgram source → ListingAnswers source a → a.status ≡ 0
-listing_done source a good (inl refused) = absurd (none_accepted source a good.0 refused good.1)
-listing_done source a good (inr listed) = ap (λ (b : Answer). b.status) listed.2
+text_done : (text : Program → Marks → List ℕ) (source : List ℕ) (a : Answer) → HasProgram source → TextAnswers text source a → a.status ≡ 0
+text_done text source a good (inl refused) = absurd (none_accepted source a good.0 refused good.1)
+text_done text source a good (inr written) = ap (λ (b : Answer). b.status) written.3
 
 -- ---- the files that were read are those that are told
 answered : (command : Command) (told : List ℕ → Option (List ℕ)) (files read : Files) (a : Answer) → AllTold command told files → AreTold command told read → AreGood command files → Answers command read a → IsDone command files a.status
@@ -88,8 +94,10 @@ answered (Run program input schedule) told files read a all are good is =
     run_done files a program input schedule good (subst (λ (f : Files). RunAnswers f a) same is)
 answered (Ask Check program) told files read a all are good is =
     check_done files.program a good (subst (λ (b : List ℕ). CheckAnswers b a) (same_bytes (told program) files.program read.program all are) is)
+answered (Ask Marking program) told files read a all are good is =
+    text_done marks_text files.program a good (subst (λ (b : List ℕ). TextAnswers marks_text b a) (same_bytes (told program) files.program read.program all are) is)
 answered (Ask Listing program) told files read a all are good is =
-    listing_done files.program a good (subst (λ (b : List ℕ). ListingAnswers b a) (same_bytes (told program) files.program read.program all are) is)
+    text_done listing files.program a good (subst (λ (b : List ℕ). TextAnswers listing b a) (same_bytes (told program) files.program read.program all are) is)
 answered (Seq program input) told files read a all are good is =
     let p : read.program ≡ files.program = same_bytes (told program) files.program read.program all.0 are.0 in
     let i : read.input ≡ files.input = same_bytes (told input) files.input read.input all.1 are.1 in

@@ -1,21 +1,24 @@
 -- What the run of accepted files owes.
 use Rattle.std.proofs.Common.{◌≡◌, ◌⊎◌, ℕ, zero, suc, ◌+◌, ◌*◌, ◌-◌, ◌≤◌, ◌<◌, List, [], ◌∷◌, map, length, refl, subst, sym, ◌∙◌, ap, ap₂, inl, Bool, true, false, if◌then◌else◌, arith}
-use Rattle.std.specs.Prelude.{Option, Some, None, Ok, replicate, get_or, slice_index, unwrap_or, is_some, ◌==◌}
+use Rattle.std.specs.Prelude.{Option, Some, None, get_or, slice_index, unwrap_or, is_some, ◌==◌}
 use Rattle.std.specs.Option.{option_map}
 use Rattle.std.specs.List.{All}
 use Rattle.std.specs.List.Sorted.{IsStrictlyIncreasing}
 use Rattle.std.proofs.lemmas.List.Elements.{All-nil, All-cons, All-head, All-tail}
 use Rattle.cdc_compile.specs.Laws.{IsAccepted}
-use Rattle.cdc_compile.specs.Source.{IsProgramOf}
+use Rattle.cdc_compile.specs.Compiled.{IsCompiledTo}
 use Rattle.cdc_compile.proofs.Sound.{accepted_is_sound}
 use Rattle.cdc_prog.specs.declared.program.Dim.{Dim}
 use Rattle.cdc_prog.specs.declared.program.Dummy.{Dummy}
+use Rattle.cdc_prog.specs.declared.program.Marks.{Marks}
 use Rattle.cdc_prog.specs.InOrder.{End}
 use Rattle.cdc_prog.specs.Plain.{Program, ProgramUnit}
 use Rattle.cdc_prog.specs.Input.{Input}
 use Rattle.cdc_prog.specs.Meaning.{meaning, full_cost}
 use Rattle.cdc_code.specs.declared.code.Code.{Code}
 use Rattle.cdc_code.specs.Sound.{IsSound}
+use Rattle.cdc_code.specs.Template.{code_of}
+use Rattle.cdc_path.proofs.OneMarks.{lists_increase}
 use Rattle.cdc_fabric.specs.Calls.{Call, Load, Store, Evict, Boundary}
 use Rattle.cdc_fabric.specs.Counting.{after_read}
 use Rattle.cdc_fabric.specs.declared.counts.Access.TheVariants.{Miss}
@@ -44,7 +47,6 @@ use Rattle.cdc_replay.specs.Direct.{counted, direct_counts}
 use Rattle.cdc_replay.specs.Refused.{end_of}
 use Rattle.cdc_replay.specs.Replays.{CanReplay}
 use Rattle.cdc_replay.proofs.Ample.{every_ample_run_ends}
-use Rattle.cdc_top.specs.Answer.{compiled_code}
 use Rattle.cdc_top.specs.Laws.{MeansTheSource, NoReadHits, hits}
 use Rattle.cdc_top.specs.Run.{told_in, events_in, end_in, IsAmpleFor}
 
@@ -57,70 +59,69 @@ arrays_in (u ∷ us) bare =
     (subst (λ (ds : List Dummy). All IsArray (map (λ d. d.dims) ds)) (sym none) (All-nil IsArray))
     (arrays_in us (All-tail (λ (u : ProgramUnit). u.dummies ≡ []) u us bare))
 
--- no boundary has written objects
-none_written : (doalls k : ℕ) → get_or {A = List ℕ} (replicate doalls []) k [] ≡ []
-none_written zero k = refl
-none_written (suc n) zero = refl
-none_written (suc n) (suc k) = none_written n k
+-- each list, and where there is none the empty one, is strictly increasing
+increases_at : (lists : List (List ℕ)) → All IsStrictlyIncreasing lists → (k : ℕ) → IsStrictlyIncreasing (get_or lists k [])
+increases_at [] all k = λ i lt. absurd (omega (arith, lt))
+increases_at (written ∷ lists) all zero = All-head IsStrictlyIncreasing written lists all
+increases_at (written ∷ lists) all (suc k) = increases_at lists (All-tail IsStrictlyIncreasing written lists all) k
 
-is_increasing : (written : List ℕ) → written ≡ [] → IsStrictlyIncreasing written
-is_increasing written none = subst IsStrictlyIncreasing (sym none) (λ k lt. absurd (omega (arith, lt)))
+module _ (source : List ℕ) (p : Program) (marks : Marks) (is : IsCompiledTo source p marks) where
+  abbrev code : Code
+  code = code_of p marks
 
-module _ (source : List ℕ) (p : Program) (is : IsProgramOf source (Ok p)) where
   abbrev accepted : IsAccepted source p
-  accepted = accepted_is_sound source p is
+  accepted = accepted_is_sound source p is.accepted
 
-  abbrev sound : IsSound (compiled_code p)
-  sound = accepted.sound.sound
+  abbrev sound : IsSound code
+  sound = (accepted.sound marks).sound
 
-  arrays : HasArrays (compiled_code p)
+  arrays : HasArrays code
   arrays = arrays_in p.units accepted.bare
 
   -- whatever the events are
-  pub is_meant : (records : Input) (events : List Event) → IsMeant p.texts (meaning p records) (run (compiled_code p) records events).machine
+  pub is_meant : (records : Input) (events : List Event) → IsMeant p.texts (meaning p records) (run code records events).machine
   is_meant records events =
-      subst (λ (q : Program). IsMeant p.texts (meaning q records) (run (compiled_code p) records events).machine) accepted.sound.program_is
-      (every_interleaving.meaning (compiled_code p) sound records events)
+      subst (λ (q : Program). IsMeant p.texts (meaning q records) (run code records events).machine) (accepted.sound marks).program_is
+      (every_interleaving.meaning code sound records events)
 
   -- each task that is held goes on or ends
   abbrev GoOn : Code → Input → Type 0
   GoOn code records = (events : List Event) → let m = (run code records events).machine in (IsOver m.phase → ⊥) → (i : ℕ) → i < m.count → CanGo code (m.tasks i)
 
-  go_on : (records : Input) → GoOn (compiled_code p) records
-  go_on records events live i lt = tasks_go (compiled_code p) sound arrays records events live i lt
+  go_on : (records : Input) → GoOn code records
+  go_on records events live i lt = tasks_go code sound arrays records events live i lt
 
   -- an engine on its code can apply each event
-  pub can_replay : (code : Code) (engine : Engine Uncached ghosts) → engine.code ≡ code → code ≡ compiled_code p → CanReplay ghosts engine
-  can_replay code engine code_is compiled =
-      let same : compiled_code p ≡ engine.code = sym (code_is ∙ compiled) in
+  pub can_replay : (engine : Engine Uncached ghosts) → engine.code ≡ code → CanReplay ghosts engine
+  can_replay engine code_is =
+      let same : code ≡ engine.code = sym code_is in
       record {
         tasks = subst (λ (k : Code). GoOn k engine.records.records) same (go_on engine.records.records);
-        entries = λ number. is_increasing _ (ap (λ (k : Code). get_or k.entries (number - 1) []) (sym same) ∙ none_written p.doalls (number - 1));
-        exits = λ number. is_increasing _ (ap (λ (k : Code). get_or k.exits (number - 1) []) (sym same) ∙ none_written p.doalls (number - 1));
+        entries = λ number. subst (λ (k : Code). IsStrictlyIncreasing (get_or k.entries (number - 1) [])) same (increases_at marks.entries (lists_increase p marks is.marks_are).0 (number - 1));
+        exits = λ number. subst (λ (k : Code). IsStrictlyIncreasing (get_or k.exits (number - 1) [])) same (increases_at marks.exits (lists_increase p marks is.marks_are).1 (number - 1));
         order = λ events. inl refl;
       }
 
   -- ---- where the schedule is ample
-  by_end : (records : Input) (events : List Event) (o : Option End) → ended_with (run (compiled_code p) records events).machine.phase ≡ o → is_some o ≡ true
+  by_end : (records : Input) (events : List Event) (o : Option End) → ended_with (run code records events).machine.phase ≡ o → is_some o ≡ true
       → unwrap_or (option_map end_of o) Stopped ≡ end_of (meaning p records).end
   by_end records events None phase some = absurd (cc some)
   by_end records events (Some end) phase some = ap end_of ((is_meant records events).over end phase).1
 
-  ends_fully : (records : Input) (events : List Event) → has_ended (compiled_code p) records events ≡ true → end_in (compiled_code p) records None events ≡ end_of (meaning p records).end
-  ends_fully records events some = by_end records events (ended_with (run (compiled_code p) records events).machine.phase) refl some
+  ends_fully : (records : Input) (events : List Event) → has_ended code records events ≡ true → end_in code records None events ≡ end_of (meaning p records).end
+  ends_fully records events some = by_end records events (ended_with (run code records events).machine.phase) refl some
 
   -- the run ends as the program does
   pub ample_end : (records : Input) (schedule : List ℕ) (h : Header) (at : ℕ) → 1 ≤ h.procs → IsAmpleFor p records (told_in schedule h at) h
-      → end_in (compiled_code p) records (told_in schedule h at).bad (events_in (compiled_code p) records (told_in schedule h at) h) ≡ end_of (meaning p records).end
+      → end_in code records (told_in schedule h at).bad (events_in code records (told_in schedule h at) h) ≡ end_of (meaning p records).end
   ample_end records schedule h at some ample =
-      let code = compiled_code p in
       let told = told_in schedule h at in
       let lines = line_count code.words in
       let is_ample : IsAmple code sound records told h.procs h.bound = record {
         fits = ample.fits;
         some = some;
         there = every_ample_run_ends.listed schedule at h.procs;
-        room = subst (λ (q : Program). length told.events + h.procs * (8 * full_cost q records + 8) ≤ h.bound) (sym accepted.sound.program_is) ample.room;
+        room = subst (λ (q : Program). length told.events + h.procs * (8 * full_cost q records + 8) ≤ h.bound) (sym (accepted.sound marks).program_is) ample.room;
       } in
       let ended = every_ample_run_ends.ended code sound records told h.procs lines h.bound is_ample in
       let there : has_ended code records (events_in code records told h) ≡ true =
@@ -128,7 +129,7 @@ module _ (source : List ℕ) (p : Program) (is : IsProgramOf source (Ok p)) wher
       ap (λ (bad : Option ℕ). end_in code records bad (events_in code records told h)) ample.fits ∙ ends_fully records (events_in code records told h) there
 
 pub means_the_source : MeansTheSource
-means_the_source files p h at are = is_meant files.program p are.accepted (records_of files.input) (events_in (compiled_code p) (records_of files.input) (told_in files.schedule h at) h)
+means_the_source files p marks h at are = is_meant files.program p marks are.compiled (records_of files.input) (events_in (code_of p marks) (records_of files.input) (told_in files.schedule h at) h)
 
 -- each load that is counted is a miss
 no_hits : (calls : List Call) (p : ℕ) → hits (counted calls p) ≡ 0
@@ -143,5 +144,5 @@ no_hits (Evict q line ∷ calls) p = no_hits calls p
 no_hits (Boundary written ∷ calls) p = no_hits calls p
 
 pub no_read_hits : NoReadHits
-no_read_hits files p h at q are =
-    no_hits (run (compiled_code p) (records_of files.input) (events_in (compiled_code p) (records_of files.input) (told_in files.schedule h at) h)).calls q
+no_read_hits files p marks h at q are =
+    no_hits (run (code_of p marks) (records_of files.input) (events_in (code_of p marks) (records_of files.input) (told_in files.schedule h at) h)).calls q

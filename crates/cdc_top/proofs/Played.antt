@@ -32,7 +32,8 @@ use Rattle.cdc_replay.proofs.Direct.{events_tell_counts, engines_count_directly}
 use Rattle.cdc_replay.proofs.Plays.{output_grows}
 use Rattle.cdc_top.specs.Answer.{Said, SaidOneOf}
 use Rattle.cdc_top.specs.Report.{Answer, answer, line_end, report, status_of}
-use Rattle.cdc_top.specs.Run.{events_in, end_in, tally_in, played, IsBegun}
+use Rattle.cdc_top.specs.Loaded.{IsBegun}
+use Rattle.cdc_top.specs.Run.{events_in, end_in, tally_in, played}
 use Rattle.cdc_top.specs.declared.status.TheConstants.{OUT_OF_MEMORY}
 use Rattle.cdc_top.proofs.Said.{closes, said_part, said_behind}
 

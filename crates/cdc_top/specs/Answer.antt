@@ -5,23 +5,24 @@ use Rattle.cdc_base.specs.Outside.{grown}
 use Rattle.cdc_compile.specs.declared.refusal.Refusal.{Refusal}
 use Rattle.cdc_compile.specs.declared.refusal.Refusal.TheVariants.{Memory}
 use Rattle.cdc_compile.specs.Source.{IsProgramOf}
-use Rattle.cdc_compile.specs.Texts.{accepted_text, refusal_text}
-use Rattle.cdc_prog.specs.declared.program.Program.{Program}
-use Rattle.cdc_prog.specs.Plain as plain
-use Rattle.cdc_prog.specs.Translation.{program_of}
+use Rattle.cdc_compile.specs.Compiled.{IsCompiledTo}
+use Rattle.cdc_compile.specs.Texts.{refusal_text}
+use Rattle.cdc_prog.specs.declared.program.Marks.{Marks}
+use Rattle.cdc_prog.specs.Plain.{Program}
 use Rattle.cdc_prog.specs.Input.{Input}
 use Rattle.cdc_prog.specs.Meaning.{meaning}
 use Rattle.cdc_code.specs.declared.code.Code.{Code}
 use Rattle.cdc_code.specs.Template.{code_of}
-use Rattle.cdc_compile.specs.Compiled.{ordinary_marks}
+use Rattle.cdc_report.specs.Accepted.{accepted_text}
 use Rattle.cdc_report.specs.Listing.{code_text}
+use Rattle.cdc_report.specs.MarkLines.{marks_text}
+use Rattle.cdc_text.specs.Texts.{joined, line}
 use Rattle.cdc_text.specs.Pieces.{GrewByFront}
 use Rattle.cdc_words.specs.Commands as w
 use Rattle.cdc_top.specs.declared.source.Question.{Question}
-use Rattle.cdc_top.specs.declared.source.Question.TheVariants.{Check, Listing}
-use Rattle.cdc_report.specs.End.{joined}
+use Rattle.cdc_top.specs.declared.source.Question.TheVariants.{Check, Marking, Listing}
 use Rattle.cdc_sched.specs.declared.header.Header.{Header}
-use Rattle.cdc_top.specs.Report.{Answer, answer, line}
+use Rattle.cdc_top.specs.Report.{Answer, answer}
 use Rattle.cdc_top.specs.Run.{told_in, played}
 use Rattle.cdc_top.specs.Schedule.{IsSchedule, IsBadSchedule, schedule_too_long, header_refused}
 use Rattle.cdc_top.specs.Sequential.{InputIs, IsCarriedOut, IsGoodInput}
@@ -36,10 +37,11 @@ pub data Command : Type 0 where
   Seq : (program input : List ℕ) → Command
   Usage : Command
 
--- by the line of the command table that they are, if they are one; `marks` and `bench` are not built yet
+-- by the line of the command table that they are, if they are one; `bench` is not built yet
 abbrev pub built : Option w.Command → Command
 built (Some (w.Run program input schedule)) = Run program input schedule
 built (Some (w.Check program)) = Ask Check program
+built (Some (w.Marks program)) = Ask Marking program
 built (Some (w.Code program)) = Ask Listing program
 built (Some (w.Seq program input)) = Seq program input
 built words = Usage
@@ -49,8 +51,8 @@ command_of words = built (w.command_of words)
 
 abbrev pub usage_text : List ℕ
 usage_text = joined (
-    line (codes "usage: cdcc run PROG INPUT SCHED") ∷ line (codes "       cdcc check PROG") ∷ line (codes "       cdcc marks PROG")
-    ∷ line (codes "       cdcc code PROG") ∷ line (codes "       cdcc seq PROG INPUT") ∷ line (codes "       cdcc bench N") ∷ [])
+    line (codes "usage: cdcc run PROG INPUT SCHED" ∷ []) ∷ line (codes "       cdcc check PROG" ∷ []) ∷ line (codes "       cdcc marks PROG" ∷ [])
+    ∷ line (codes "       cdcc code PROG" ∷ []) ∷ line (codes "       cdcc seq PROG INPUT" ∷ []) ∷ line (codes "       cdcc bench N" ∷ []) ∷ [])
 
 -- the bytes of the files that a command reads, each as it was read
 pub record Files : Type 0 where
@@ -58,20 +60,16 @@ pub record Files : Type 0 where
   pub input : List ℕ
   pub schedule : List ℕ
 
--- the code that a program is compiled to
-abbrev pub compiled_code : plain.Program → Code
-compiled_code p = code_of p (ordinary_marks p.sites p.doalls)
+-- what is answered where code is run on the records as the schedule says
+abbrev pub ran : Code → Input → (schedule : List ℕ) → Header → (at : ℕ) → Answer
+ran code records schedule h at = played code records (told_in schedule h at) h
 
--- what is answered where the program is run on the records as the schedule says
-abbrev pub ran : plain.Program → Input → (schedule : List ℕ) → Header → (at : ℕ) → Answer
-ran p records schedule h at = played (compiled_code p) records (told_in schedule h at) h
-
--- the schedule is too long, a line of its header is refused, or the program is run
-abbrev pub ScheduleAnswers : plain.Program → (schedule : List ℕ) → Input → Answer → Type 0
-ScheduleAnswers p schedule records a =
+-- the schedule is too long, a line of its header is refused, or the code is run
+abbrev pub ScheduleAnswers : Code → (schedule : List ℕ) → Input → Answer → Type 0
+ScheduleAnswers code schedule records a =
     ((SCHEDULE_LIMIT < length schedule) × (a ≡ schedule_too_long))
     ⊎ (((number : ℕ) × IsBadSchedule schedule number × (a ≡ header_refused number))
-    ⊎ ((h : Header) × (at : ℕ) × IsSchedule schedule h at × (a ≡ ran p records schedule h at)))
+    ⊎ ((h : Header) × (at : ℕ) × IsSchedule schedule h at × (a ≡ ran code records schedule h at)))
 
 -- the first refusal of the program is answered; want of memory is no refusal
 abbrev pub IsRefusedWith : List ℕ → Answer → Type 0
@@ -79,24 +77,30 @@ IsRefusedWith source a = (refusal : Refusal) × (refusal ≢ Memory) × IsProgra
 
 -- or that it is accepted, with its numbers
 abbrev pub CheckAnswers : List ℕ → Answer → Type 0
-CheckAnswers source a = IsRefusedWith source a ⊎ ((program : Program) × IsProgramOf source (Ok (program_of program)) × (a ≡ answer (accepted_text program) DONE))
+CheckAnswers source a = IsRefusedWith source a ⊎ ((program : Program) × IsProgramOf source (Ok program) × (a ≡ answer (accepted_text program) DONE))
 
--- or its code is listed
-abbrev pub ListingAnswers : List ℕ → Answer → Type 0
-ListingAnswers source a = IsRefusedWith source a ⊎ ((program : plain.Program) × IsProgramOf source (Ok program) × (a ≡ answer (code_text program (compiled_code program)) DONE))
+-- or a text on its program and its marks is written
+abbrev pub TextAnswers : (text : Program → Marks → List ℕ) → List ℕ → Answer → Type 0
+TextAnswers text source a = IsRefusedWith source a ⊎ ((program : Program) × (marks : Marks) × IsCompiledTo source program marks × (a ≡ answer (text program marks) DONE))
+
+-- the listing of the code with these marks
+abbrev pub listing : Program → Marks → List ℕ
+listing program marks = code_text program (code_of program marks)
 
 abbrev pub SourceAnswers : Question → List ℕ → Answer → Type 0
 SourceAnswers Check = CheckAnswers
-SourceAnswers Listing = ListingAnswers
+SourceAnswers Marking = TextAnswers marks_text
+SourceAnswers Listing = TextAnswers listing
 
 -- or the input is refused, or what the program prints on its records is answered, with its end
 abbrev pub SeqAnswers : List ℕ → List ℕ → Answer → Type 0
-SeqAnswers source input a = IsRefusedWith source a ⊎ ((program : plain.Program) × IsProgramOf source (Ok program) × InputIs (IsCarriedOut (meaning program)) input a)
+SeqAnswers source input a = IsRefusedWith source a ⊎ ((program : Program) × IsProgramOf source (Ok program) × InputIs (IsCarriedOut (meaning program)) input a)
 
 -- or the input or the schedule is refused, or the program is run
 abbrev pub RunAnswers : Files → Answer → Type 0
 RunAnswers files a =
-    IsRefusedWith files.program a ⊎ ((program : plain.Program) × IsProgramOf files.program (Ok program) × InputIs (ScheduleAnswers program files.schedule) files.input a)
+    IsRefusedWith files.program a
+    ⊎ ((program : Program) × (marks : Marks) × IsCompiledTo files.program program marks × InputIs (ScheduleAnswers (code_of program marks) files.schedule) files.input a)
 
 -- the answer to a command over the bytes of its files
 abbrev pub Answers : Command → Files → Answer → Type 0
@@ -123,10 +127,10 @@ InputFailed input schedule files before now = Rose (before input) (now input) �
 
 abbrev pub ReadFailed : Command → Files → (List ℕ → ℕ) → (List ℕ → ℕ) → Type 0
 ReadFailed (Run program input schedule) files before now =
-    Rose (before program) (now program) ⊎ ((accepted : plain.Program) × IsProgramOf files.program (Ok accepted) × InputFailed input schedule files before now)
+    Rose (before program) (now program) ⊎ ((accepted : Program) × IsProgramOf files.program (Ok accepted) × InputFailed input schedule files before now)
 ReadFailed (Ask question program) files before now = Rose (before program) (now program)
 ReadFailed (Seq program input) files before now =
-    Rose (before program) (now program) ⊎ ((accepted : plain.Program) × IsProgramOf files.program (Ok accepted) × Rose (before input) (now input))
+    Rose (before program) (now program) ⊎ ((accepted : Program) × IsProgramOf files.program (Ok accepted) × Rose (before input) (now input))
 ReadFailed Usage files before now = ⊥
 
 -- there is no other answer

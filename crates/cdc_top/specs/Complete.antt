@@ -1,11 +1,14 @@
 -- What a call promises where its files are told, nothing of them is refused and no count rose: the command is done, or memory ran out.
 use Rattle.std.specs.Prelude.{◌≡◌, ◌⊎◌, ℕ, List, Option, Some, Ok}
 use Rattle.cdc_base.specs.Causes.{Rose}
+use Rattle.cdc_compile.specs.Compiled.{IsCompiledTo}
 use Rattle.cdc_compile.specs.Source.{IsProgramOf}
 use Rattle.cdc_input.specs.Records.{records_of}
+use Rattle.cdc_prog.specs.declared.program.Marks.{Marks}
 use Rattle.cdc_prog.specs.Meaning.{meaning}
 use Rattle.cdc_prog.specs.Plain.{Program}
 use Rattle.cdc_replay.specs.Refused.{end_of}
+use Rattle.cdc_code.specs.Template.{code_of}
 use Rattle.cdc_sched.specs.declared.header.Header.{Header}
 use Rattle.cdc_top.specs.Answer.{Command, Run, Ask, Seq, Usage, Files, ran}
 use Rattle.cdc_top.specs.Report.{status_of}
@@ -47,11 +50,12 @@ AllStayed Usage before now = Unit {0}
 -- the status is that of the run; where the schedule is ample for the program, it is that of the program on one memory
 pub record IsRun (files : Files) (status : ℕ) : Type 0 where
   pub accepted : Program
-  pub is_program : IsProgramOf files.program (Ok accepted)
+  pub marks : Marks
+  pub compiled : IsCompiledTo files.program accepted marks
   pub header : Header
   pub at : ℕ
   pub is_schedule : IsSchedule files.schedule header at
-  pub status_is : status ≡ (ran accepted (records_of files.input) files.schedule header at).status
+  pub status_is : status ≡ (ran (code_of accepted marks) (records_of files.input) files.schedule header at).status
   pub ends : IsAmpleFor accepted (records_of files.input) (told_in files.schedule header at) header → status ≡ status_of (end_of (meaning accepted (records_of files.input)).end)
 
 -- the status says that the command is done: how the run or the program ended, or that the program is accepted or listed

@@ -1,6 +1,7 @@
 pub mod Answer
 pub mod Complete
 pub mod Laws
+pub mod Loaded
 pub mod Report
 pub mod Run
 pub mod Schedule

@@ -5,8 +5,8 @@ use Rattle.cdc_fabric.specs.declared.counts.Counts.{Counts}
 use Rattle.cdc_epoch.specs.declared.outcome.Tally.{Tally}
 use Rattle.cdc_epoch.specs.declared.outcome.Outcome.{Outcome}
 use Rattle.cdc_epoch.specs.declared.outcome.Outcome.TheVariants.{Done, Fault, Stopped, BadEvent, ReadFault, SinkFault}
-use Rattle.cdc_report.specs.Listing.{number}
-use Rattle.cdc_report.specs.End.{joined, line_feed, run_text}
+use Rattle.cdc_text.specs.Texts.{number, line}
+use Rattle.cdc_report.specs.End.{run_text}
 use Rattle.cdc_top.specs.declared.status.TheConstants.{DONE, FAULTED, STOPPED, INPUT_REFUSED, READ_FAULT, WRITE_FAULT}
 
 -- the bytes that are printed, and the status
@@ -17,16 +17,13 @@ pub record Answer : Type 0 where
 abbrev pub answer : List ℕ → ℕ → Answer
 answer bytes status = record { bytes = bytes; status = status }
 
-abbrev pub line : List ℕ → List ℕ
-line text = text ++ line_feed
-
 -- the line end that an output may lack
 abbrev pub line_end : List ℕ → List ℕ
 line_end output = if is_open output then 10 ∷ [] else []
 
 -- a line of the schedule that is no event
 abbrev pub bad_event_line : (line : ℕ) → List ℕ
-bad_event_line n = joined (codes "= bad event line " ∷ number n ∷ line_feed ∷ [])
+bad_event_line n = line (codes "= bad event line " ∷ number n ∷ [])
 
 -- the lines on a run; a bad event stands in place of them all
 abbrev pub report : Outcome → (boundaries : ℕ) → Tally → (bound : ℕ) → (counts : ℕ → Counts) → (procs : ℕ) → List ℕ

@@ -6,9 +6,6 @@ use Rattle.cdc_prog.specs.Meaning.{full_cost}
 use Rattle.cdc_prog.specs.Plain.{Program}
 use Rattle.cdc_code.specs.declared.code.Code.{Code}
 use Rattle.cdc_fabric.specs.Uncached.{line_count}
-use Rattle.cdc_fabric.specs.UncachedSteps.{uncached_procs, uncached_words}
-use Rattle.cdc_fabric.specs.contracts.uncached.UncachedFabric.TheImpl.{ghosts}
-use Rattle.cdc_fabric.specs.declared.uncached.Uncached.{Uncached}
 use Rattle.cdc_sched.specs.declared.event.Event.{Event}
 use Rattle.cdc_sched.specs.declared.header.Header.{Header}
 use Rattle.cdc_sched.specs.declared.header.TailKind.TheVariants.{RoundRobin}
@@ -16,15 +13,12 @@ use Rattle.cdc_sched.specs.Listing.{schedule_events, schedule_bad}
 use Rattle.cdc_sched.specs.Tail.{tail_event}
 use Rattle.cdc_sched.specs.Told.{Told}
 use Rattle.cdc_machine.specs.Code.{run, ended_with}
-use Rattle.cdc_epoch.specs.declared.engine.Engine.{Engine}
 use Rattle.cdc_epoch.specs.declared.outcome.Outcome.{Outcome}
 use Rattle.cdc_epoch.specs.declared.outcome.Outcome.TheVariants.{Stopped, BadEvent}
 use Rattle.cdc_epoch.specs.declared.outcome.Tally.{Tally}
-use Rattle.cdc_epoch.specs.Ties.{StandsFor}
 use Rattle.cdc_replay.specs.Applied.{applied_events, output_after}
-use Rattle.cdc_replay.specs.Direct.{direct_counts, idle_events, HasNoCounts}
+use Rattle.cdc_replay.specs.Direct.{direct_counts, idle_events}
 use Rattle.cdc_replay.specs.Refused.{end_of}
-use Rattle.cdc_replay.specs.Replays.{CanReplay}
 use Rattle.cdc_top.specs.Report.{Answer, answer, line_end, report, status_of}
 
 -- what a file lists behind its header
@@ -57,13 +51,3 @@ pub record IsAmpleFor (program : Program) (records : Input) (told : Told) (h : H
   pub fits : told.bad ≡ None
   pub turns : h.tail ≡ RoundRobin
   pub room : length told.events + h.procs * (8 * full_cost program records + 8) ≤ h.bound
-
--- an engine on memory without caches, before its first event
-pub record IsBegun (code : Code) (records : Input) (procs : ℕ) (engine : Engine Uncached ghosts) : Type 0 where
-  pub code_is : engine.code ≡ code
-  pub records_are : engine.records.records ≡ records
-  pub procs_are : uncached_procs engine.side ≡ procs
-  pub words_are : uncached_words engine.side ≡ code.words
-  pub first : StandsFor ghosts engine []
-  pub counts : HasNoCounts engine.side
-  pub can : CanReplay ghosts engine

@@ -1,10 +1,9 @@
 -- The schedules that `run` takes, and those that it refuses.
 use Rattle.std.specs.Prelude.{ℕ, ◌≤◌, List, [], ◌∷◌, length, codes}
-use Rattle.cdc_report.specs.Listing.{number}
-use Rattle.cdc_report.specs.End.{joined, line_feed}
+use Rattle.cdc_text.specs.Texts.{number, line}
 use Rattle.cdc_sched.specs.declared.header.Header.{Header}
 use Rattle.cdc_sched.specs.Headers.{HasHeader, IsBadHeader}
-use Rattle.cdc_top.specs.Report.{Answer, answer, line}
+use Rattle.cdc_top.specs.Report.{Answer, answer}
 use Rattle.cdc_top.specs.declared.limits.TheConstants.{SCHEDULE_LIMIT}
 use Rattle.cdc_top.specs.declared.status.TheConstants.{INPUT_REFUSED}
 
@@ -19,7 +18,7 @@ pub record IsBadSchedule (bytes : List ℕ) (number : ℕ) : Type 0 where
   pub bad : IsBadHeader bytes number
 
 abbrev pub schedule_too_long : Answer
-schedule_too_long = answer (line (codes "refused schedule over 16777216 bytes")) INPUT_REFUSED
+schedule_too_long = answer (line (codes "refused schedule over 16777216 bytes" ∷ [])) INPUT_REFUSED
 
 abbrev pub header_refused : (line : ℕ) → Answer
-header_refused n = answer (joined (codes "refused header line " ∷ number n ∷ line_feed ∷ [])) INPUT_REFUSED
+header_refused n = answer (line (codes "refused header line " ∷ number n ∷ [])) INPUT_REFUSED

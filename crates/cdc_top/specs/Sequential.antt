@@ -6,9 +6,9 @@ use Rattle.cdc_input.specs.Records.{records_of}
 use Rattle.cdc_input.specs.Refusals.{HasNoFault, Fails}
 use Rattle.cdc_prog.specs.Meaning.{Meaning}
 use Rattle.cdc_prog.specs.Input.{Input}
-use Rattle.cdc_report.specs.Listing.{number}
-use Rattle.cdc_report.specs.End.{joined, line_feed, end_line}
-use Rattle.cdc_top.specs.Report.{Answer, answer, line, line_end, status_of}
+use Rattle.cdc_text.specs.Texts.{number, line}
+use Rattle.cdc_report.specs.End.{end_line}
+use Rattle.cdc_top.specs.Report.{Answer, answer, line_end, status_of}
 use Rattle.cdc_replay.specs.Refused.{end_of}
 use Rattle.cdc_top.specs.declared.limits.TheConstants.{INPUT_LIMIT}
 use Rattle.cdc_top.specs.declared.status.TheConstants.{INPUT_REFUSED}
@@ -24,10 +24,10 @@ pub record IsBadInput (bytes : List ℕ) (place : Place) : Type 0 where
   pub fails : Fails bytes (BadNumber place)
 
 abbrev pub input_too_long : Answer
-input_too_long = answer (line (codes "refused input over 1048576 bytes")) INPUT_REFUSED
+input_too_long = answer (line (codes "refused input over 1048576 bytes" ∷ [])) INPUT_REFUSED
 
 abbrev pub input_bad : Place → Answer
-input_bad place = answer (joined (codes "refused input at " ∷ number place.line ∷ codes ":" ∷ number place.column ∷ line_feed ∷ [])) INPUT_REFUSED
+input_bad place = answer (line (codes "refused input at " ∷ number place.line ∷ codes ":" ∷ number place.column ∷ [])) INPUT_REFUSED
 
 -- the output, the line end that it may lack, and the line on the end, with the status of that end
 abbrev pub carried_out : Meaning → Answer

@@ -1,17 +1,20 @@
 // The command `check` over the bytes of its file.
 ghost use Rattle.cdc_compile.specs.Refusals.{IsNamed};
-ghost use Rattle.cdc_compile.specs.Texts.{accepted_text, refusal_text};
+ghost use Rattle.cdc_compile.specs.Texts.{refusal_text};
+ghost use Rattle.cdc_prog.specs.Translation.{program_of};
+ghost use Rattle.cdc_report.specs.Accepted.{accepted_text};
 ghost use Rattle.cdc_top.specs.Answer.{Said, SaidOneOf, CheckAnswers};
 ghost use Rattle.cdc_top.specs.Report.{answer};
 
 use crate::status::{DONE, OUT_OF_MEMORY, PROGRAM_REFUSED, WRITE_FAULT};
 use cdc_base::Sink;
-use cdc_compile::{Refusal, program, write_accepted, write_refusal};
+use cdc_compile::{Refusal, program, write_refusal};
 use cdc_prog::Program;
+use cdc_report::write_accepted;
 use std::alloc::Global;
 
 fn say_accepted<K: Sink>(program: &Program, out: &mut K) -> u8
-    ensures { Said (answer (accepted_text program.now) DONE) result (K.taken out.old) (K.taken out.new) (K.faults out.old) (K.faults out.new) }
+    ensures { Said (answer (accepted_text (program_of program.now)) DONE) result (K.taken out.old) (K.taken out.new) (K.faults out.old) (K.faults out.new) }
 {
     match write_accepted(program, out) {
         Ok(()) => DONE,

@@ -9,6 +9,8 @@ mod report;
 mod run;
 mod seq;
 mod source;
+#[cfg(test)]
+mod source_tests;
 mod status;
 #[cfg(test)]
 mod tests;

@@ -1,16 +1,15 @@
 // The run of a program's code by the machine, as its schedule says.
-ghost use Rattle.std.specs.Prelude.{◌≡◌, ◌≢◌, ◌≤◌, ℕ, [], ◌∷◌, ◌++◌, List as Items, Ok as Accepts, Some, IfOk, if◌then◌else◌};
-ghost use Rattle.cdc_compile.specs.Source.{IsProgramOf};
+ghost use Rattle.std.specs.Prelude.{◌≡◌, ◌≢◌, ◌≤◌, [], ◌∷◌, ◌++◌, Some, IfOk, if◌then◌else◌};
 ghost use Rattle.cdc_epoch.specs.Ties.{counts_of};
 ghost use Rattle.cdc_epoch.specs.declared.outcome.Outcome.TheVariants.{ReadFault, SinkFault as SinkFailed};
 ghost use Rattle.cdc_fabric.specs.UncachedSteps.{uncached_procs};
 ghost use Rattle.cdc_fabric.specs.contracts.uncached.UncachedFabric.TheImpl.{ghosts as memory_side};
-ghost use Rattle.cdc_prog.specs.Plain as plain;
 ghost use Rattle.cdc_sched.specs.Listing.{listed_told, listed_procs};
 ghost use Rattle.cdc_sched.specs.Told.{Told};
-ghost use Rattle.cdc_top.specs.Answer.{Said, SaidOneOf, compiled_code};
+ghost use Rattle.cdc_top.specs.Answer.{Said, SaidOneOf};
+ghost use Rattle.cdc_top.specs.Loaded.{IsCompiledCode, IsBegun};
 ghost use Rattle.cdc_top.specs.Report.{answer, report, status_of};
-ghost use Rattle.cdc_top.specs.Run.{IsBegun, played};
+ghost use Rattle.cdc_top.specs.Run.{played};
 
 use crate::report::{status, write_report};
 use crate::status::{OUT_OF_MEMORY, READ_FAULT, WRITE_FAULT};
@@ -32,7 +31,7 @@ pub struct Loaded {
 
 // The machine before its first event: so many processors on memory without caches.
 fn prepare(alloc: Global, loaded: Loaded, procs: u32) -> Result<Engine<Uncached>, NoMemory>
-    requires { (source : Items ℕ) × (p : plain.Program) × IsProgramOf source (Accepts p) × (loaded.code ≡ compiled_code p) }
+    requires { IsCompiledCode loaded.code }
     ensures { IfOk result (λ machine. IsBegun loaded.code loaded.records.records procs machine) }
 {
     let memory = Uncached::new(alloc, loaded.code.words, procs)?;
@@ -45,7 +44,8 @@ fn close<K: Sink>(machine: &Engine<Uncached>, header: Header, played: Played, ou
     requires read { played.end ≢ ReadFault }
     requires written { played.end ≢ SinkFailed }
     ensures memory { result ≢ OUT_OF_MEMORY }
-    ensures said { Said (answer ((if played.is_open then 10 ∷ [] else []) ++ report played.end machine.now.boundaries played.tally header.bound (counts_of memory_side machine.now) header.procs) (status_of played.end)) result
+    ensures said { Said (answer ((if played.is_open then 10 ∷ [] else [])
+        ++ report played.end machine.now.boundaries played.tally header.bound (counts_of memory_side machine.now) header.procs) (status_of played.end)) result
         (K.taken out.old) (K.taken out.new) (K.faults out.old) (K.faults out.new) }
 {
     match write_report(out, machine, header.procs, played, header.bound) {
@@ -85,7 +85,7 @@ pub fn run_events<K: Sink>(
     events: Listed,
     out: &mut K,
 ) -> u8
-    requires accepted { (source : Items ℕ) × (p : plain.Program) × IsProgramOf source (Accepts p) × (loaded.code ≡ compiled_code p) }
+    requires compiled { IsCompiledCode loaded.code }
     requires listed { listed_procs events ≡ header.procs }
     requires some { 1 ≤ header.procs }
     ensures { (t : Told) → listed_told events ≡ Some t → SaidOneOf (λ a. a ≡ played loaded.code loaded.records.records t header) result

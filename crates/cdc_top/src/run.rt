@@ -1,11 +1,11 @@
 // The command `run`: a program is carried out by the machine, as its schedule says.
-ghost use Rattle.std.specs.Prelude.{◌≡◌, ◌≤◌, ℕ, List as Items, length, vec_len, Ok as Accepts};
+ghost use Rattle.std.specs.Prelude.{◌≡◌, ◌≤◌, length, vec_len, Ok as Accepts};
 ghost use Rattle.cdc_base.specs.Causes.{Rose};
 ghost use Rattle.cdc_compile.specs.Source.{IsProgramOf};
 ghost use Rattle.cdc_prog.specs.Plain as plain;
-ghost use Rattle.cdc_prog.specs.Translation.{program_of};
 ghost use Rattle.cdc_sched.specs.Headers.{bad_number};
-ghost use Rattle.cdc_top.specs.Answer.{Run, RunAnswers, ScheduleAnswers, InputFailed, IsTold, StepEnded, ToolEnded, Said, SaidOneOf, compiled_code};
+ghost use Rattle.cdc_top.specs.Answer.{Run, RunAnswers, ScheduleAnswers, InputFailed, IsTold, StepEnded, ToolEnded, Said, SaidOneOf};
+ghost use Rattle.cdc_top.specs.Loaded.{IsCompiledCode};
 ghost use Rattle.cdc_top.specs.Report.{answer};
 ghost use Rattle.cdc_top.specs.Schedule.{header_refused};
 ghost use Rattle.cdc_top.specs.Sequential.{InputIs, IsGoodInput};
@@ -60,10 +60,9 @@ fn run_bytes<K: Sink>(
     schedule: Vec<u8>,
     out: &mut K,
 ) -> u8
-    requires accepted { (source : Items ℕ) × IsProgramOf source (Accepts (program_of compiled.program)) }
-    requires code { compiled.code ≡ compiled_code (program_of compiled.program) }
+    requires compiled { IsCompiledCode compiled.code }
     requires within { vec_len schedule ≤ SCHEDULE_LIMIT }
-    ensures { SaidOneOf (ScheduleAnswers (program_of compiled.program) schedule.items records.records) result (K.taken out.old) (K.taken out.new) (K.faults out.old) (K.faults out.new) }
+    ensures { SaidOneOf (ScheduleAnswers compiled.code schedule.items records.records) result (K.taken out.old) (K.taken out.new) (K.faults out.old) (K.faults out.new) }
 {
     match read_header(&schedule) {
         Err(refusal) => say_bad_header(refusal, out),
@@ -87,9 +86,8 @@ fn run_schedule<S: Store, K: Sink>(
     store: &mut S,
     out: &mut K,
 ) -> u8
-    requires accepted { (source : Items ℕ) × IsProgramOf source (Accepts (program_of compiled.program)) }
-    requires code { compiled.code ≡ compiled_code (program_of compiled.program) }
-    ensures { StepEnded (λ files. IsTold (S.told store.old schedule.now) files.schedule) (λ files a. ScheduleAnswers (program_of compiled.program) files.schedule records.records a)
+    requires compiled { IsCompiledCode compiled.code }
+    ensures { StepEnded (λ files. IsTold (S.told store.old schedule.now) files.schedule) (λ files a. ScheduleAnswers compiled.code files.schedule records.records a)
         (λ files. Rose (S.faults store.old schedule.now) (S.faults store.new schedule.now)) result
         (K.taken out.old) (K.taken out.new) (S.faults store.old) (S.faults store.new) (K.faults out.old) (K.faults out.new) }
 {
@@ -114,10 +112,9 @@ fn run_input<S: Store, K: Sink>(
     store: &mut S,
     out: &mut K,
 ) -> u8
-    requires accepted { (source : Items ℕ) × IsProgramOf source (Accepts (program_of compiled.program)) }
-    requires code { compiled.code ≡ compiled_code (program_of compiled.program) }
+    requires compiled { IsCompiledCode compiled.code }
     requires within { length input.now ≤ INPUT_LIMIT }
-    ensures { StepEnded (λ files. IsTold (S.told store.old schedule.now) files.schedule) (λ files a. InputIs (ScheduleAnswers (program_of compiled.program) files.schedule) input.now a)
+    ensures { StepEnded (λ files. IsTold (S.told store.old schedule.now) files.schedule) (λ files a. InputIs (ScheduleAnswers compiled.code files.schedule) input.now a)
         (λ files. IsGoodInput input.now × Rose (S.faults store.old schedule.now) (S.faults store.new schedule.now)) result
         (K.taken out.old) (K.taken out.new) (S.faults store.old) (S.faults store.new) (K.faults out.old) (K.faults out.new) }
 {
@@ -137,9 +134,9 @@ fn run_compiled<S: Store, K: Sink>(
     store: &mut S,
     out: &mut K,
 ) -> u8
-    requires accepted { (source : Items ℕ) × IsProgramOf source (Accepts (program_of compiled.program)) }
-    requires code { compiled.code ≡ compiled_code (program_of compiled.program) }
-    ensures { StepEnded (λ files. IsTold (S.told store.old input.now) files.input × IsTold (S.told store.old schedule.now) files.schedule) (λ files a. InputIs (ScheduleAnswers (program_of compiled.program) files.schedule) files.input a)
+    requires compiled { IsCompiledCode compiled.code }
+    ensures { StepEnded (λ files. IsTold (S.told store.old input.now) files.input × IsTold (S.told store.old schedule.now) files.schedule)
+        (λ files a. InputIs (ScheduleAnswers compiled.code files.schedule) files.input a)
         (λ files. InputFailed input.now schedule.now files (S.faults store.old) (S.faults store.new)) result
         (K.taken out.old) (K.taken out.new) (S.faults store.old) (S.faults store.new) (K.faults out.old) (K.faults out.new) }
 {

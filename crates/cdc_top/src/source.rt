@@ -1,9 +1,9 @@
 // The commands over a source alone.
 ghost use Rattle.std.specs.Prelude.{◌≡◌};
-ghost use Rattle.cdc_compile.specs.Source.{IsProgramOf};
 ghost use Rattle.cdc_prog.specs.Translation.{program_of};
 ghost use Rattle.cdc_report.specs.Listing.{code_text};
-ghost use Rattle.cdc_top.specs.Answer.{Ask, Said, SaidOneOf, SourceAnswers, ListingAnswers, ToolEnded};
+ghost use Rattle.cdc_report.specs.MarkLines.{marks_text};
+ghost use Rattle.cdc_top.specs.Answer.{Ask, Said, SaidOneOf, SourceAnswers, TextAnswers, listing, ToolEnded};
 ghost use Rattle.cdc_top.specs.Report.{answer};
 
 use crate::check::{check_source, say_refused};
@@ -12,8 +12,8 @@ use cdc_base::{ReadRefusal, Sink, Store, read_all};
 use cdc_check::CheckRefusal;
 use cdc_code::Code;
 use cdc_compile::{Refusal, compile};
-use cdc_prog::{Kind, Program, limit};
-use cdc_report::write_code;
+use cdc_prog::{Kind, Marks, Program, limit};
+use cdc_report::{write_code, write_marks};
 use std::alloc::Global;
 
 /// What is asked of a source.
@@ -21,8 +21,19 @@ use std::alloc::Global;
 pub enum Question {
     /// Whether it is accepted.
     Check,
+    /// What the marks of its reads and its written lists are.
+    Marking,
     /// What its code is.
     Listing,
+}
+
+fn say_marks<K: Sink>(program: &Program, marks: &Marks, out: &mut K) -> u8
+    ensures { Said (answer (marks_text (program_of program.now) marks.now) DONE) result (K.taken out.old) (K.taken out.new) (K.faults out.old) (K.faults out.new) }
+{
+    match write_marks(program, marks, out) {
+        Ok(()) => DONE,
+        Err(_) => WRITE_FAULT,
+    }
 }
 
 fn say_code<K: Sink>(program: &Program, code: &Code, out: &mut K) -> u8
@@ -34,8 +45,18 @@ fn say_code<K: Sink>(program: &Program, code: &Code, out: &mut K) -> u8
     }
 }
 
+fn mark_source<K: Sink>(alloc: Global, source: &[u8], out: &mut K) -> u8
+    ensures { SaidOneOf (TextAnswers marks_text source.now) result (K.taken out.old) (K.taken out.new) (K.faults out.old) (K.faults out.new) }
+{
+    match compile(alloc, source) {
+        Ok(compiled) => say_marks(&compiled.program, &compiled.marks, out),
+        Err(Refusal::Memory) => OUT_OF_MEMORY,
+        Err(refusal) => say_refused(refusal, out),
+    }
+}
+
 fn list_source<K: Sink>(alloc: Global, source: &[u8], out: &mut K) -> u8
-    ensures { SaidOneOf (ListingAnswers source.now) result (K.taken out.old) (K.taken out.new) (K.faults out.old) (K.faults out.new) }
+    ensures { SaidOneOf (TextAnswers listing source.now) result (K.taken out.old) (K.taken out.new) (K.faults out.old) (K.faults out.new) }
 {
     match compile(alloc, source) {
         Ok(compiled) => say_code(&compiled.program, &compiled.code, out),
@@ -49,6 +70,7 @@ fn answer_source<K: Sink>(alloc: Global, question: Question, source: &[u8], out:
 {
     match question {
         Question::Check => check_source(alloc, source, out),
+        Question::Marking => mark_source(alloc, source, out),
         Question::Listing => list_source(alloc, source, out),
     }
 }

@@ -1,4 +1,5 @@
-//! What no clause says: that calls succeed where memory is there, and the printed texts.
+//! What no clause says: that calls succeed where memory is there, and the printed texts. Beside these the commands over files,
+//! words that are none, and faults.
 
 use crate::run_tool;
 use cdc_base::{CountSink, MemSink, MemStore, PlainStore};
@@ -6,7 +7,7 @@ use std::alloc::Global;
 use std::fmt::Write;
 use std::test::Fail;
 
-const ONE: &str = "PROGRAM ONE\nN = 2 + 3\nPRINT *, N + 1\nEND\n";
+pub(crate) const ONE: &str = "PROGRAM ONE\nN = 2 + 3\nPRINT *, N + 1\nEND\n";
 
 const HEADER: &str = "cdc 1\nscheme direct\nprocs 1\ncache 1 1 1\nbound 100\ntail rr\nevents\n";
 
@@ -93,21 +94,25 @@ const SCHEDULE_REFUSED: &str = "refused header line 1\n";
 
 const RUN: &str = "run,one.f,one.in,one.s";
 
-const CHECK: &str = "check,one.f";
+pub(crate) const CHECK: &str = "check,one.f";
 
-const CODE: &str = "code,one.f";
+pub(crate) const CODE: &str = "code,one.f";
 
-const LISTED: &str =
+pub(crate) const MARKS: &str = "marks,one.f";
+
+pub(crate) const MARKED: &str = "site 1 write N at 2:1\nsite 2 read N at 3:10 ordinary\n";
+
+pub(crate) const LISTED: &str =
     "0 const 2\n1 const 3\n2 add\n3 store ONE.N site 1\n4 load ONE.N site 2 ordinary\n5 const 1\n6 add\n7 put\n8 line\n9 halt\n";
 
-const ACCEPTED: &str = "accepted units 1 objects 1 words 1 sites 2 doalls 0\n";
+pub(crate) const ACCEPTED: &str = "accepted units 1 objects 1 words 1 sites 2 doalls 0\n";
 
 const SEQ: &str = "seq,one.f,one.in";
 
 const SIX: &str = "6\n= end done\n";
 
 // The words of a line, with a comma between two.
-fn split_words(alloc: Global, line: &str) -> Result<Vec<String>, Fail> {
+pub(crate) fn split_words(alloc: Global, line: &str) -> Result<Vec<String>, Fail> {
     let mut list = Vec::new(alloc);
     for word in line.split(',') {
         list.push(String::from_str(alloc, word)?)?;
@@ -202,308 +207,16 @@ fn orders_of_events_give_one_output(rt: HostRuntime) -> Result<(), Fail> {
     Ok(())
 }
 
-fn one_file(alloc: Global, program: Vec<u8>) -> Result<Vec<(String, Vec<u8>)>, Fail> {
+pub(crate) fn one_file(alloc: Global, program: Vec<u8>) -> Result<Vec<(String, Vec<u8>)>, Fail> {
     let mut list = Vec::new(alloc);
     list.push((String::from_str(alloc, "one.f")?, program))?;
     Ok(list)
 }
 
 // A program of these lines between PROGRAM and END.
-fn program_of(alloc: Global, between: &str) -> Result<Vec<u8>, Fail> {
+pub(crate) fn program_of(alloc: Global, between: &str) -> Result<Vec<u8>, Fail> {
     let source = format!(in alloc; "PROGRAM P\n{between}\nEND\n")?;
     Ok(source.into_bytes())
-}
-
-// Each refusal once; then two at once, of which the first kind is told; then further places of a kind, and accepted lines.
-#[test]
-fn programs_are_checked(rt: HostRuntime) -> Result<(), Fail> {
-    let words = split_words(rt.alloc(), CHECK)?;
-    for (between, status, text) in [
-        ("N = 1 # 2", 3, "refused BadByte at 2:7\n"),
-        ("PRINT *, 'ab", 3, "refused OpenText at 2:10\n"),
-        (
-            "NNNNNNNNNNNNNNNNNNNNNNNNNNNNNNNN = 1",
-            3,
-            "refused NameLong at 2:1\n",
-        ),
-        ("N = 9223372036854775808", 3, "refused NumberWide at 2:5\n"),
-        (
-            "!cccccccccccccccccccccccccccccccccccccccccccccccccccccccccccccccccccccccccccccccccccccccccccccccccccccccccccccccccccccccccccccccccccc",
-            3,
-            "refused LineLong at 2:133\n",
-        ),
-        ("N == 1", 3, "refused NotAStatement at line 2\n"),
-        (
-            "N = (((((((((((((((((((((((((((((((((((((((((((((((((((((((((((((((((1)))))))))))))))))))))))))))))))))))))))))))))))))))))))))))))))))",
-            3,
-            "refused LineLong at 2:133\n",
-        ),
-        (
-            "N = (((((((((((((((((((((((((((((((((((((((((((((((((((((((((((((((((1 &\n)))))))))))))))))))))))))))))))))))))))))))))))))))))))))))))))))",
-            3,
-            "refused Depth at line 2\n",
-        ),
-        ("END DO", 3, "refused Nesting at line 2\n"),
-        ("X = 1", 3, "refused Undeclared at 2:1\n"),
-        ("INTEGER A, A", 3, "refused Duplicate at 2:9 and 2:12\n"),
-        ("INTEGER A(N)", 3, "refused NotConstant at 2:11\n"),
-        ("INTEGER A(2)\nA = 1", 3, "refused Shape at 3:1\n"),
-        (
-            "DO K = 1, 2\nK = 3\nEND DO",
-            3,
-            "refused DoVariable at 3:1\n",
-        ),
-        (
-            "INTEGER A(2097152), B(2097153)",
-            3,
-            "refused TooMany words limit 4194304\n",
-        ),
-        (
-            "DOALL K = 1, 2\nPRINT *, K\nEND DOALL",
-            3,
-            "refused DoallBody at 3:1\n",
-        ),
-        (
-            "DOALL K = 1, 2\nN = K\nEND DOALL",
-            3,
-            "refused NotPrivate at 3:1\n",
-        ),
-        (
-            "INTEGER A(10)\nDOALL I = 1, 9\nA(I) = A(I + 1)\nEND DOALL",
-            3,
-            "refused Conflict at 4:8 and 4:1\n",
-        ),
-        (
-            "N = 1\nIF (N == 1) CALL Q",
-            3,
-            "refused NotAStatement at line 3\n",
-        ),
-        (
-            "DOALL K = 1, 2\nIF (K == 1) PRINT *, K\nEND DOALL",
-            3,
-            "refused DoallBody at 3:13\n",
-        ),
-        (
-            "DOALL K = 1, 2\nDOALL J = 1, 2\nEND DOALL\nEND DOALL",
-            3,
-            "refused DoallBody at 3:1\n",
-        ),
-        (
-            "DOALL K = 1, 2 PRIVATE(J)\nDO L = 1, 2\nEND DO\nEND DOALL",
-            3,
-            "refused NotPrivate at 3:4\n",
-        ),
-        (
-            "DOALL K = 1, 2\nK = 3\nEND DOALL",
-            3,
-            "refused NotPrivate at 3:1\n",
-        ),
-        (
-            "DOALL K = 1, 2 PRIVATE(K)\nEND DOALL",
-            3,
-            "refused Duplicate at 2:7 and 2:24\n",
-        ),
-        ("INTEGER A, A\nX = 1", 3, "refused Undeclared at 3:1\n"),
-        (
-            "INTEGER A(N), B, B",
-            3,
-            "refused Duplicate at 2:15 and 2:18\n",
-        ),
-        (
-            "INTEGER A(2), B(N)\nA = 1",
-            3,
-            "refused NotConstant at 2:17\n",
-        ),
-        (
-            "INTEGER A(2)\nDO K = 1, 2\nK = 3\nEND DO\nA = 1",
-            3,
-            "refused Shape at 6:1\n",
-        ),
-        (
-            "INTEGER A(4194305)\nDO K = 1, 2\nK = 3\nEND DO",
-            3,
-            "refused DoVariable at 4:1\n",
-        ),
-        (
-            "INTEGER A, B, A, B, A",
-            3,
-            "refused Duplicate at 2:9 and 2:15\n",
-        ),
-        (
-            "IMPLICIT NONE\nINTEGER A(K), B(X)",
-            3,
-            "refused Undeclared at 3:11\n",
-        ),
-        (
-            "INTEGER, PARAMETER :: P = 1, Q = P + R",
-            3,
-            "refused Undeclared at 2:38\n",
-        ),
-        (
-            "INTEGER, PARAMETER :: P = 1 / 0",
-            3,
-            "refused NotConstant at 2:27\n",
-        ),
-        (
-            "INTEGER, PARAMETER :: P = 9223372036854775807 + 1",
-            3,
-            "refused NotConstant at 2:27\n",
-        ),
-        (
-            "INTEGER A(P)\nINTEGER, PARAMETER :: P = 2",
-            3,
-            "refused NotConstant at 2:11\n",
-        ),
-        ("INTEGER A(1, 2, 3, 4)", 3, "refused Shape at 2:9\n"),
-        ("INTEGER A(2:1)", 3, "refused Shape at 2:9\n"),
-        ("INTEGER A(2, 3)\nA(1) = 1", 3, "refused Shape at 3:1\n"),
-        ("N(1) = 1", 3, "refused Shape at 2:1\n"),
-        (
-            "INTEGER, PARAMETER :: P = 2\nP = 1",
-            3,
-            "refused Shape at 3:1\n",
-        ),
-        (
-            "INTEGER A(3)\nDO A = 1, 2\nEND DO",
-            3,
-            "refused Shape at 3:4\n",
-        ),
-        (
-            "DO K = 1, 2\nDO J = 1, 2\nREAD *, L, K\nEND DO\nEND DO",
-            3,
-            "refused DoVariable at 4:12\n",
-        ),
-        (
-            "DO K = 1, 2\nDO K = 1, 2\nEND DO\nEND DO",
-            3,
-            "refused DoVariable at 3:4\n",
-        ),
-        (
-            "INTEGER A(2097152), B(2097152)",
-            0,
-            "accepted units 1 objects 2 words 4194304 sites 0 doalls 0\n",
-        ),
-        (
-            "INTEGER A(1:1)\nA(1) = A(1)",
-            0,
-            "accepted units 1 objects 1 words 1 sites 2 doalls 0\n",
-        ),
-        (
-            "DO K = 1, 2\nEND DO\nK = 1",
-            0,
-            "accepted units 1 objects 1 words 1 sites 4 doalls 0\n",
-        ),
-        (
-            "INTEGER A(19)\nDOALL I = 1, 9\nA(2*I) = A(2*I + 1)\nEND DOALL",
-            0,
-            "accepted units 1 objects 2 words 20 sites 2 doalls 1\n",
-        ),
-        (
-            "INTEGER A(10:129)\nDOALL I = 1, 10 PRIVATE(J)\nDO J = 0, 9\nA(10*I + J) = I\nEND DO\nEND DOALL",
-            0,
-            "accepted units 1 objects 3 words 122 sites 1 doalls 1\n",
-        ),
-        (
-            "INTEGER, PARAMETER :: P = MOD(-7, 3), Q = -7 / 2, R = MIN(5, 4, 6)\nINTEGER A(P:Q + 3), B(R)",
-            0,
-            "accepted units 1 objects 2 words 6 sites 0 doalls 0\n",
-        ),
-    ] {
-        let program = program_of(rt.alloc(), between)?;
-        let mut store = PlainStore::new(one_file(rt.alloc(), program)?);
-        let mut sink = MemSink::new(rt.alloc(), 1000, Vec::new(rt.alloc()))?;
-        let got = run_tool(rt.alloc(), &words, &mut store, &mut sink);
-        assert_eq!(rt; got, status, "{text}");
-        assert_eq!(rt; sink.bytes(), text.as_bytes(), "{text}");
-    }
-    Ok(())
-}
-
-// A program of so many assignments, to one variable or to as many.
-fn assignments(alloc: Global, count: u32, to_one: bool) -> Result<Vec<u8>, Fail> {
-    let mut source = String::from_str(alloc, "PROGRAM P\n")?;
-    for k in 0..count {
-        if to_one {
-            source.push_str("N=1\n")?;
-        } else {
-            write!(source, "N{k}=1\n")?;
-        }
-    }
-    source.push_str("END\n")?;
-    Ok(source.into_bytes())
-}
-
-#[test]
-fn programs_have_limits(rt: HostRuntime) -> Result<(), Fail> {
-    let words = split_words(rt.alloc(), CHECK)?;
-    for (count, to_one, status, text) in [
-        (
-            16384,
-            true,
-            0,
-            "accepted units 1 objects 1 words 1 sites 16384 doalls 0\n",
-        ),
-        (16385, true, 3, "refused TooMany sites limit 16384\n"),
-        (
-            1024,
-            false,
-            0,
-            "accepted units 1 objects 1024 words 1024 sites 1024 doalls 0\n",
-        ),
-        (1025, false, 3, "refused TooMany objects limit 1024\n"),
-    ] {
-        let program = assignments(rt.alloc(), count, to_one)?;
-        let mut store = PlainStore::new(one_file(rt.alloc(), program)?);
-        let mut sink = MemSink::new(rt.alloc(), 1000, Vec::new(rt.alloc()))?;
-        let got = run_tool(rt.alloc(), &words, &mut store, &mut sink);
-        assert_eq!(rt; got, status, "{text}");
-        assert_eq!(rt; sink.bytes(), text.as_bytes(), "{text}");
-    }
-    Ok(())
-}
-
-#[test]
-fn a_program_has_its_limit(rt: HostRuntime) -> Result<(), Fail> {
-    let words = split_words(rt.alloc(), CHECK)?;
-    for (length, status, text) in [
-        (0, 3, "refused Nesting at line 1\n"),
-        (262144, 0, ACCEPTED),
-        (262145, 3, "refused TooMany source limit 262144\n"),
-    ] {
-        let mut program = ONE.as_bytes().to_vec(rt.alloc())?;
-        program.resize(length, b'\n')?;
-        let mut store = PlainStore::new(one_file(rt.alloc(), program)?);
-        let mut sink = MemSink::new(rt.alloc(), 1000, Vec::new(rt.alloc()))?;
-        let got = run_tool(rt.alloc(), &words, &mut store, &mut sink);
-        assert_eq!(rt; got, status, "{text}");
-        assert_eq!(rt; sink.bytes(), text.as_bytes(), "{text}");
-    }
-    Ok(())
-}
-
-// Programs, each with its listing.
-#[test]
-fn code_is_listed(rt: HostRuntime) -> Result<(), Fail> {
-    let words = split_words(rt.alloc(), CODE)?;
-    for (program, status, text) in [
-        (ONE, 0, LISTED),
-        ("PROGRAM P\nX = 1\nEND\n", 3, "refused Undeclared at 2:1\n"),
-        (
-            "PROGRAM L\nINTEGER A(2)\nDO K = 2, 1, -1\nPRINT *, 'a', A(K)\nEND DO\nDOALL I = 1, 2 PRIVATE(J)\nJ = I\nEND DOALL\nEND\n",
-            0,
-            "0 const 2\n1 const 1\n2 const 1\n3 neg\n4 doinit\n5 store L.K site 1\n6 dotest 12\n7 text 0\n8 load L.K site 2 ordinary\n9 index L.A\n10 loade L.A site 3 ordinary\n11 gap\n12 put\n13 line\n14 load L.K site 4 ordinary\n15 doadd\n16 store L.K site 5\n17 jump -11\n18 const 1\n19 const 2\n20 const 1\n21 fork 1 4\n22 local 0\n23 setlocal 1\n24 join\n25 halt\n",
-        ),
-    ] {
-        let mut store = PlainStore::new(one_file(
-            rt.alloc(),
-            program.as_bytes().to_vec(rt.alloc())?,
-        )?);
-        let mut sink = MemSink::new(rt.alloc(), 1000, Vec::new(rt.alloc()))?;
-        let got = run_tool(rt.alloc(), &words, &mut store, &mut sink);
-        assert_eq!(rt; got, status, "{text}");
-        assert_eq!(rt; sink.bytes(), text.as_bytes(), "{text}");
-    }
-    Ok(())
 }
 
 // Programs with the lines of their input; then the rules of the language, a line each.
@@ -766,6 +479,8 @@ fn other_words_are_told_the_usage(rt: HostRuntime) -> Result<(), Fail> {
         "seqs,a,b",
         "seq,a,b,c",
         "run,a",
+        "marks",
+        "marks,-x",
         "bench,0",
         "bench,1001",
     ] {
@@ -791,6 +506,9 @@ fn faults_end_the_call(rt: HostRuntime) -> Result<(), Fail> {
         (CHECK, 1, 0, 1000, 5, ACCEPTED),
         (CHECK, 0, 1, 1000, 6, ACCEPTED),
         (CHECK, 0, 2, 1000, 6, ACCEPTED),
+        (MARKS, 1, 0, 1000, 5, MARKED),
+        (MARKS, 0, 1, 1000, 6, MARKED),
+        (MARKS, 0, 0, 20, 6, MARKED),
         (CODE, 1, 0, 1000, 5, LISTED),
         (CODE, 0, 1, 1000, 6, LISTED),
         (CODE, 0, 0, 20, 6, LISTED),

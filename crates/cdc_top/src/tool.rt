@@ -16,7 +16,7 @@ use std::alloc::Global;
 const USAGE: &[u8] =
     b"usage: cdcc run PROG INPUT SCHED\n       cdcc check PROG\n       cdcc marks PROG\n       cdcc code PROG\n       cdcc seq PROG INPUT\n       cdcc bench N\n";
 
-// Carries out a command. `marks` and `bench` are not built yet, and are answered as words that are no command.
+// Carries out a command. `bench` is not built yet, and is answered as words that are no command.
 fn carry_out<S: Store, K: Sink>(
     alloc: Global,
     command: Command<'_>,
@@ -31,9 +31,9 @@ fn carry_out<S: Store, K: Sink>(
             run_files(alloc, program, input, schedule, store, out)
         }
         Command::Check(program) => ask_file(alloc, Question::Check, program, store, out),
+        Command::Marks(program) => ask_file(alloc, Question::Marking, program, store, out),
         Command::Code(program) => ask_file(alloc, Question::Listing, program, store, out),
         Command::Seq(program, input) => seq_files(alloc, program, input, store, out),
-        Command::Marks(_) => say(out, USAGE, NO_COMMAND),
         Command::Bench(_) => say(out, USAGE, NO_COMMAND),
     }
 }

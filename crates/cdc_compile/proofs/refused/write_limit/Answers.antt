@@ -1,7 +1,8 @@
 use Rattle.std.proofs.Common.{ℕ, List, [], ◌∷◌, subst}
 use Rattle.std.specs.Prelude.{codes}
 use Rattle.cdc_text.specs.Pieces.{Wrote}
-use Rattle.cdc_compile.specs.Texts.{line, number, kind_text}
+use Rattle.cdc_text.specs.Texts.{number, line}
+use Rattle.cdc_compile.specs.Texts.{kind_text}
 use Rattle.cdc_compile.proofs.refused.write_limit.Goals as goal
 
 pub returns : goal.returns

@@ -1,9 +1,10 @@
 use Rattle.std.proofs.Common.{◌++◌, [], subst, ℕ, List}
-use Rattle.std.specs.Prelude.{Option, Result, codes}
+use Rattle.std.specs.Prelude.{codes}
 use Rattle.cdc_base.specs.Gathered.{waiting}
 use Rattle.cdc_text.specs.Pieces.{Gathers}
 use Rattle.cdc_text.proofs.Gathers.{gathered_first, gathered_second}
-use Rattle.cdc_report.specs.Listing.{Named, number, name_of, operands, spaced}
+use Rattle.cdc_text.specs.Texts.{number}
+use Rattle.cdc_report.specs.Listing.{Named, name_of, operands, spaced}
 use Rattle.cdc_code.specs.declared.instr.Step.{Step}
 use Rattle.cdc_report.proofs.Lines.{line_parts}
 use Rattle.cdc_report.proofs.listing.gather_step.Goals as goal

@@ -1,7 +1,6 @@
 use Rattle.std.proofs.Common.{ap, sym, subst, refl, [], Err, inl, inr}
 use Rattle.std.specs.Prelude.{List, ℕ}
 use Rattle.cdc_base.specs.Causes.{Rose}
-use Rattle.cdc_prog.specs.Translation.{program_of}
 use Rattle.cdc_top.specs.Answer.{Files, IsTold, ScheduleAnswers}
 use Rattle.cdc_top.specs.Sequential.{InputIs, input_too_long}
 use Rattle.cdc_top.proofs.Ends.{ended_memory, ended_read, ended_said, ended_behind, unread, unread_told, too_long, too_long_told, too_long_long, whole_told, not_failed}
@@ -28,7 +27,7 @@ returns-in-Err-TooLong g c =
     let input = g.S.Store.told c.args.store.now c.args.input.now in
     let schedule = g.S.Store.told c.args.store.now c.args.schedule.now in
     let long = too_long_long INPUT_LIMIT input (c.in-Err-TooLong.ensures.long (ap Err c.in-Err-TooLong.field-0-is)) in
-    let is : InputIs (ScheduleAnswers (program_of c.args.compiled.program) (unread schedule)) (too_long INPUT_LIMIT input) input_too_long = inl (long, refl) in
+    let is : InputIs (ScheduleAnswers c.args.compiled.code (unread schedule)) (too_long INPUT_LIMIT input) input_too_long = inl (long, refl) in
     ended_said (with_both (too_long INPUT_LIMIT input) (unread schedule)) input_too_long _ _ _ _ _ _ _ (too_long_told INPUT_LIMIT input, unread_told schedule) is is
     (c.in-Err-TooLong.ensures.cause.kept (not_failed _ (ap Err c.in-Err-TooLong.field-0-is))) c.say_long_input.ensures
 

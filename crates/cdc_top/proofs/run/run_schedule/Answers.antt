@@ -1,6 +1,5 @@
 use Rattle.std.proofs.Common.{ap, sym, subst, refl, Err, inl, inr}
 use Rattle.std.specs.Prelude.{List, ℕ}
-use Rattle.cdc_prog.specs.Translation.{program_of}
 use Rattle.cdc_top.specs.Answer.{IsTold, ScheduleAnswers}
 use Rattle.cdc_top.specs.Schedule.{schedule_too_long}
 use Rattle.cdc_top.proofs.Ends.{ended_memory, ended_read, ended_said, ended_one_of, with_schedule, unread, unread_told, too_long, too_long_told, too_long_long, whole_told, not_failed}
@@ -20,7 +19,7 @@ returns-in-Err-TooLong g c =
     let told = g.S.Store.told c.args.store.now c.args.schedule.now in
     let bytes = too_long SCHEDULE_LIMIT told in
     let long = too_long_long SCHEDULE_LIMIT told (c.in-Err-TooLong.ensures.long (ap Err c.in-Err-TooLong.field-0-is)) in
-    let is : ScheduleAnswers (program_of c.args.compiled.program) bytes c.args.records.records schedule_too_long = inl (long, refl) in
+    let is : ScheduleAnswers c.args.compiled.code bytes c.args.records.records schedule_too_long = inl (long, refl) in
     ended_said (with_schedule bytes) schedule_too_long _ _ _ _ _ _ _ (too_long_told SCHEDULE_LIMIT told) is is (c.in-Err-TooLong.ensures.cause.kept (not_failed _ (ap Err c.in-Err-TooLong.field-0-is))) c.say.ensures
 
 pub returns : goal.returns

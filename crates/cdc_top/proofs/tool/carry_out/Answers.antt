@@ -4,8 +4,5 @@ use Rattle.cdc_top.specs.Answer.{built}
 use Rattle.cdc_top.proofs.Ends.{usage_ended}
 use Rattle.cdc_top.proofs.tool.carry_out.Goals as goal
 
-pub returns-in-Marks : goal.returns-in-Marks
-returns-in-Marks g c = usage_ended _ _ _ _ _ _ _ _ (ap (λ x. built (Some (chosen x))) c.in-Marks.is) c.say.ensures
-
 pub returns-in-Bench : goal.returns-in-Bench
-returns-in-Bench g c = usage_ended _ _ _ _ _ _ _ _ (ap (λ x. built (Some (chosen x))) c.in-Bench.is) c.say-in-Bench.ensures
+returns-in-Bench g c = usage_ended _ _ _ _ _ _ _ _ (ap (λ x. built (Some (chosen x))) c.in-Bench.is) c.say.ensures
