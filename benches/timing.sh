@@ -1,4 +1,4 @@
-# What the scripts on sources have in common: it is read by these, and is no script of its own.
+# What the scripts have in common: it is read by these, and is no script of its own.
 
 # filled FILE: comments behind a source, up to 262,144 bytes
 filled() {
