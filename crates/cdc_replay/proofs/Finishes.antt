@@ -16,7 +16,7 @@ use Rattle.cdc_sched.specs.Told.{Told}
 use Rattle.cdc_machine.specs.Code.{run, ended_with}
 use Rattle.cdc_epoch.specs.declared.engine.Engine.{Engine}
 use Rattle.cdc_replay.specs.declared.progress.Progress.{Progress}
-use Rattle.cdc_replay.specs.declared.replay.Played.{Played}
+use Rattle.cdc_replay.specs.declared.run.Played.{Played}
 use Rattle.cdc_epoch.specs.declared.outcome.Outcome.{Outcome}
 use Rattle.cdc_epoch.specs.declared.outcome.Outcome.TheVariants.{Done, Fault, Stopped, BadEvent, ReadFault, SinkFault}
 use Rattle.cdc_epoch.specs.Ties.{StandsFor}

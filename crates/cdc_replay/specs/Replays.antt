@@ -21,7 +21,7 @@ use Rattle.cdc_machine.specs.Laws.{IsOver}
 use Rattle.cdc_machine.specs.Code.{entry_of, exit_of, run, ended_with}
 use Rattle.cdc_epoch.specs.declared.engine.Engine.{Engine}
 use Rattle.cdc_replay.specs.declared.progress.Progress.{Progress}
-use Rattle.cdc_replay.specs.declared.replay.Played.{Played}
+use Rattle.cdc_replay.specs.declared.run.Played.{Played}
 use Rattle.cdc_epoch.specs.Side.{Made}
 use Rattle.cdc_epoch.specs.Ties.{CanGo, StandsFor, is_there}
 use Rattle.cdc_replay.specs.Effects.{idles}

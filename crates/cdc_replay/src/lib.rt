@@ -4,7 +4,7 @@
 pub mod laws;
 mod progress;
 mod refused;
-mod replay;
+mod run;
 
 pub use cdc_epoch::{Outcome, Tally};
-pub use replay::{Played, replay_lines};
+pub use run::{Played, replay};

@@ -27,7 +27,7 @@ use Rattle.cdc_report.specs.End.{end_line, event_lines, count_line, count_lines,
 use Rattle.cdc_replay.specs.Applied.{applied_events, output_after}
 use Rattle.cdc_replay.specs.Direct.{direct_counts, HasNoCounts}
 use Rattle.cdc_replay.specs.Replays.{Opening, Replays, EndsAs, WroteAll, WroteFront, opening_of}
-use Rattle.cdc_replay.specs.declared.replay.Played.{Played}
+use Rattle.cdc_replay.specs.declared.run.Played.{Played}
 use Rattle.cdc_replay.proofs.Direct.{events_tell_counts, engines_count_directly}
 use Rattle.cdc_replay.proofs.Plays.{output_grows}
 use Rattle.cdc_top.specs.Answer.{Said, SaidOneOf}

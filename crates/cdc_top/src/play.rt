@@ -18,7 +18,7 @@ use cdc_code::Code;
 use cdc_epoch::{Engine, Outcome};
 use cdc_fabric::Uncached;
 use cdc_input::InputRecords;
-use cdc_replay::{Played, replay_lines};
+use cdc_replay::{Played, replay};
 use cdc_sched::{Header, Listed, Tail};
 use std::alloc::Global;
 
@@ -68,7 +68,7 @@ fn play_out<K: Sink>(
         (K.taken out.old) (K.taken out.new) (K.faults out.old) (K.faults out.new) }
 {
     let mut tail = Tail::new(header.tail, header.procs, machine.lines());
-    let played = replay_lines(machine, events, &mut tail, header.bound, out);
+    let played = replay(machine, events, &mut tail, header.bound, out);
     match played.end {
         Outcome::ReadFault => READ_FAULT,
         Outcome::SinkFault => WRITE_FAULT,

@@ -9,8 +9,8 @@ use Rattle.cdc_replay.specs.Replays.{Replays, opening_of}
 use Rattle.cdc_top.proofs.Played.{still_procs, said_whole_run, said_cut_run}
 use Rattle.cdc_top.proofs.play.play_out.Goals as goal
 
-pub replay_lines-played-requires : goal.replay_lines-played-requires
-replay_lines-played-requires g c = record {
+pub replay-played-requires : goal.replay-played-requires
+replay-played-requires g c = record {
   procs = c.requires.listed ∙ sym c.requires.begun.procs_are;
   tail = c.new-tail.ensures.procs_are ∙ sym c.requires.begun.procs_are;
   first_of_tail = (c.args.header.tail, c.args.header.procs, c.lines.result, c.new-tail.ensures);
@@ -20,7 +20,7 @@ replay_lines-played-requires g c = record {
 
 pub close-requires : goal.close-requires
 close-requires g c =
-    let ran = c.replay_lines-played in
+    let ran = c.replay-played in
     let h = c.args.header in
     record {
       procs =
@@ -33,7 +33,7 @@ close-requires g c =
 
 pub returns-in_default : goal.returns-in_default
 returns-in_default g c = λ t told.
-    let ran = c.replay_lines-played in
+    let ran = c.replay-played in
     let h = c.args.header in
     let first = c.args.machine.now in
     let old = g.K.Sink.taken c.args.out.now in
@@ -46,7 +46,7 @@ returns-in_default g c = λ t told.
 
 pub returns-in-SinkFault : goal.returns-in-SinkFault
 returns-in-SinkFault g c = λ t told.
-    let ran = c.replay_lines-played in
+    let ran = c.replay-played in
     let h = c.args.header in
     let first = c.args.machine.now in
     let old = g.K.Sink.taken c.args.out.now in
@@ -58,7 +58,7 @@ returns-in-SinkFault g c = λ t told.
 
 -- a list that is told has no fault of reading
 pub returns-in-ReadFault : goal.returns-in-ReadFault
-returns-in-ReadFault g c = λ t told. absurd (elim (c.replay_lines-played.ensures.read.fault c.in-ReadFault.is) [
+returns-in-ReadFault g c = λ t told. absurd (elim (c.replay-played.ensures.read.fault c.in-ReadFault.is) [
   | inl failed ↦ cc failed
   | inr rose ↦ omega (arith, rose)
 ])

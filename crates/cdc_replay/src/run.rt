@@ -284,11 +284,10 @@ fn hand_out<K: Sink>(end: Outcome, gathered: &mut Gathered, out: &mut K) -> Outc
 }
 
 /// Applies the listed events and then those of the tail to a machine that is before its first event, until the machine has
-/// ended or `bound` of them are applied, and writes what they print. Listed events are read to their end also where they are
-/// not applied any more.
+/// ended or `bound` of them are applied. Listed events are read to their end also where they are not applied any more.
 ///
-/// It tells beside the end and the counts whether the last line of the output is open.
-pub fn replay_lines<F: Fabric, E: Events, K: Sink>(
+/// It writes the output of the run and answers how the run ended, its tally, and whether the last line of the output is open.
+pub fn replay<F: Fabric, E: Events, K: Sink>(
     machine: &mut Engine<F>,
     events: &mut E,
     tail: &mut Tail,

@@ -6,7 +6,7 @@ use Rattle.cdc_prog.specs.Meaning.{bytes_of}
 use Rattle.cdc_replay.specs.Effects.{piece_in}
 use Rattle.cdc_replay.specs.declared.progress.Progress.{Progress}
 use Rattle.cdc_replay.proofs.Applying.{can_next, plays_next, breaks_next, tells_next}
-use Rattle.cdc_replay.proofs.replay.apply_event.Goals as goal
+use Rattle.cdc_replay.proofs.run.apply_event.Goals as goal
 
 on_err : {T E P : Type 0} (r : Result T E) → P → OnErr r P
 on_err (Ok x) p = tt

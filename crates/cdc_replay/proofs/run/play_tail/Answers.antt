@@ -7,7 +7,7 @@ use Rattle.cdc_replay.specs.Applied.{has_ended, with_tail}
 use Rattle.cdc_replay.specs.Replays.{Playing}
 use Rattle.cdc_replay.proofs.Leads.{tail_stops, tail_one, tail_none, tail_grows}
 use Rattle.cdc_replay.proofs.Listing.{stopped, running, can_left, left_after}
-use Rattle.cdc_replay.proofs.replay.play_tail.Goals as goal
+use Rattle.cdc_replay.proofs.run.play_tail.Goals as goal
 
 on_err : {T E P : Type 0} (r : Result T E) → P → OnErr r P
 on_err (Ok x) p = tt

@@ -6,7 +6,7 @@ use Rattle.cdc_sched.specs.Tail.{tail_event}
 use Rattle.cdc_sched.specs.Tails.{Stands, tail_procs}
 use Rattle.cdc_replay.specs.Applied.{has_ended, with_tail}
 use Rattle.cdc_replay.specs.Replays.{CanReplay, Opening, Playing}
-use Rattle.cdc_replay.proofs.replay.play_tail.Given as goal
+use Rattle.cdc_replay.proofs.run.play_tail.Given as goal
 
 abbrev pub invariant-loop-tail : goal.invariant-loop-tail
 invariant-loop-tail g l = record {

@@ -5,7 +5,7 @@ use Rattle.cdc_replay.specs.declared.progress.Progress.{Progress}
 use Rattle.cdc_replay.specs.Replays.{Playing}
 use Rattle.cdc_replay.proofs.Listing.{stopped, running, passes, takes, begins, many_play, can_left, left_after}
 use Rattle.cdc_replay.proofs.Passing.{skipped}
-use Rattle.cdc_replay.proofs.replay.take_event.Goals as goal
+use Rattle.cdc_replay.proofs.run.take_event.Goals as goal
 
 on_err : {T E P : Type 0} (r : Result T E) → P → OnErr r P
 on_err (Ok x) p = tt

@@ -1,6 +1,6 @@
 use Rattle.std.proofs.Common.{◌≤◌, ◌+◌, ℕ, arith}
 use Rattle.cdc_replay.proofs.Passing.{skipped, idle_is}
-use Rattle.cdc_replay.proofs.replay.pass_idle.Goals as goal
+use Rattle.cdc_replay.proofs.run.pass_idle.Goals as goal
 
 le : (a n b : ℕ) → a + n ≤ b → a ≤ b
 le a n b is = omega (arith, is)

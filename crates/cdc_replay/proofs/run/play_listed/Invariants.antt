@@ -2,7 +2,7 @@ use Rattle.std.proofs.Common.{◌≡◌, List}
 use Rattle.cdc_base.specs.Gathered.{waiting}
 use Rattle.cdc_sched.specs.declared.event.Event.{Event}
 use Rattle.cdc_replay.specs.Replays.{CanReplay, Opening, Playing, GoesOnWith}
-use Rattle.cdc_replay.proofs.replay.play_listed.Given as goal
+use Rattle.cdc_replay.proofs.run.play_listed.Given as goal
 
 abbrev pub invariant-loop-refusal : goal.invariant-loop-refusal
 invariant-loop-refusal g l = record {

@@ -4,7 +4,7 @@ use Rattle.cdc_sched.specs.Tail.{tail_event}
 use Rattle.cdc_epoch.specs.declared.outcome.Outcome.{Outcome}
 use Rattle.cdc_replay.specs.Replays.{HandsOut, opening_of}
 use Rattle.cdc_replay.proofs.Finishes.{begins, finishes, left_within, reads_end, cause_end}
-use Rattle.cdc_replay.proofs.replay.replay_lines.Goals as goal
+use Rattle.cdc_replay.proofs.run.replay.Goals as goal
 
 pub play-played-requires-clause-playing : goal.play-played-requires-clause-playing
 play-played-requires-clause-playing g c =

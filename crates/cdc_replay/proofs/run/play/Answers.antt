@@ -3,7 +3,7 @@ use Rattle.cdc_base.specs.Gathered.{waiting}
 use Rattle.cdc_sched.specs.Tail.{tail_event}
 use Rattle.cdc_replay.specs.Applied.{has_ended, with_tail}
 use Rattle.cdc_replay.proofs.Finishes.{listed_out, tail_out, tail_cut}
-use Rattle.cdc_replay.proofs.replay.play.Goals as goal
+use Rattle.cdc_replay.proofs.run.play.Goals as goal
 
 pub play_tail-requires-clause-playing : goal.play_tail-requires-clause-playing
 play_tail-requires-clause-playing g c =

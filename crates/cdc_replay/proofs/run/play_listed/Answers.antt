@@ -6,7 +6,7 @@ use Rattle.cdc_base.specs.Gathered.{waiting}
 use Rattle.cdc_epoch.specs.declared.outcome.Outcome.{Outcome}
 use Rattle.cdc_replay.specs.Replays.{ListedEnd}
 use Rattle.cdc_replay.proofs.Reading.{starts, takes_on, begins_on, reads_all, refused_there}
-use Rattle.cdc_replay.proofs.replay.play_listed.Goals as goal
+use Rattle.cdc_replay.proofs.run.play_listed.Goals as goal
 
 or_false : (b : Bool) → (b || false) ≡ b
 or_false true = refl
