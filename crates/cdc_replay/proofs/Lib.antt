@@ -9,3 +9,4 @@ pub mod Reading
 pub mod Finishes
 pub mod Ample
 pub mod Direct
+pub mod Ready

@@ -3,20 +3,26 @@ use Rattle.std.proofs.Common.{◌≡◌, ℕ, ◌<◌, List, [], refl, ap, sym, 
 use Rattle.std.specs.Prelude.{Ok, Err, Result, IfOk}
 use Rattle.cdc_base.specs.declared.memory.NoMemory.{NoMemory}
 use Rattle.cdc_code.specs.declared.code.Code.{Code}
+use Rattle.cdc_compile.specs.Laws.{IsAccepted}
+use Rattle.cdc_compile.proofs.Sound.{accepted_is_sound}
 use Rattle.cdc_fabric.specs.Counting.{no_counts}
 use Rattle.cdc_fabric.specs.UncachedSteps.{uncached_procs, uncached_words, uncached_counts}
 use Rattle.cdc_fabric.specs.contracts.uncached.UncachedFabric.TheImpl.{ghosts}
 use Rattle.cdc_fabric.specs.declared.uncached.Uncached.{Uncached}
+use Rattle.cdc_path.proofs.OneMarks.{lists_increase}
 use Rattle.cdc_input.specs.declared.file.InputRecords.{InputRecords}
 use Rattle.cdc_prog.specs.Input.{Input}
 use Rattle.cdc_epoch.specs.declared.engine.Engine.{Engine}
 use Rattle.cdc_epoch.specs.Ties.{StandsFor}
 use Rattle.cdc_replay.specs.Direct.{HasNoCounts}
+use Rattle.cdc_replay.proofs.Ready.{can_replay}
 use Rattle.cdc_top.specs.Loaded.{IsCompiledCode, IsBegun}
-use Rattle.cdc_top.proofs.Laws.{can_replay}
 
 module _ (code : Code) (is : IsCompiledCode code) (records : InputRecords) (procs : ℕ) (memory : Uncached)
     (procs_are : uncached_procs memory ≡ procs) (words_are : uncached_words memory ≡ code.words) (none : (q : ℕ) → q < procs → uncached_counts memory q ≡ no_counts) where
+  abbrev accepted : IsAccepted is.source is.program
+  accepted = accepted_is_sound is.source is.program is.compiled.accepted
+
   begun : (engine : Engine Uncached ghosts) → engine.code ≡ code → engine.records ≡ records → engine.side ≡ memory → StandsFor ghosts engine [] → IsBegun code records.records procs engine
   begun engine code_is records_are side_is first = record {
     code_is = code_is;
@@ -25,7 +31,9 @@ module _ (code : Code) (is : IsCompiledCode code) (records : InputRecords) (proc
     words_are = ap uncached_words side_is ∙ words_are;
     first = first;
     counts = subst HasNoCounts (sym side_is) (λ q lt. none q (subst (λ (n : ℕ). q < n) procs_are lt));
-    can = can_replay is.source is.program is.marks is.compiled engine (code_is ∙ is.code_is);
+    can =
+        let lists = lists_increase is.program is.marks is.compiled.marks_are in
+        can_replay is.program is.marks (accepted.sound is.marks).sound accepted.bare lists.0 lists.1 ghosts engine (code_is ∙ is.code_is) refl refl;
   }
 
   pub begun_if : (r : Result (Engine Uncached ghosts) NoMemory) → IfOk r (λ e. e.code ≡ code) → IfOk r (λ e. e.records ≡ records) → IfOk r (λ e. e.side ≡ memory) → IfOk r (λ e. StandsFor ghosts e [])
