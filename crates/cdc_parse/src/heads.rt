@@ -6,8 +6,9 @@ ghost use Rattle.cdc_parse.specs.Tokens.{Gives};
 ghost use Rattle.cdc_tree.specs.Forms as v;
 ghost use Rattle.cdc_parse.specs.Forms as f;
 
+use crate::commas::{closed, in_parens};
 use crate::declaration::{implicit, integer};
-use crate::parts::{alone, closed_names, dummies, guard, number};
+use crate::parts::{alone, guard, number};
 use crate::refusal::Unread;
 use crate::simple::simple;
 use crate::token::{after, after_word, expect, expect_word, finished, name_at, word_at};
@@ -28,7 +29,7 @@ fn subroutine(alloc: Global, tokens: &[Lexed]) -> Result<Form, Unread>
     ensures { Gives v.form result (f.subroutine_at tokens.now) }
 {
     let (name, rest) = name_at(alloc, tokens)?;
-    let (dummies, rest) = dummies(alloc, rest)?;
+    let (dummies, rest) = in_parens(alloc, rest)?;
     alone(Form::Subroutine(name, dummies), rest)
 }
 
@@ -104,7 +105,7 @@ fn privates(alloc: Global, tokens: &[Lexed]) -> Result<List<Named>, Unread>
     match after_word(Word::Private, tokens) {
         Some(rest) => {
             let rest = expect(Symbol::LeftParen, rest)?;
-            let (names, rest) = closed_names(alloc, rest)?;
+            let (names, rest) = closed(alloc, rest)?;
             finished(rest)?;
             Ok(names)
         }

@@ -1,6 +1,7 @@
 //! The statements of a source.
 #![tactic(auto)]
 
+mod commas;
 mod declaration;
 mod heads;
 mod kind;

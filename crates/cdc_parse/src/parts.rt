@@ -1,17 +1,18 @@
-//! Parts of statements: numbers, conditions and lists.
+//! Parts of statements: numbers, conditions and what stands in lists.
 
-ghost use Rattle.std.specs.Prelude.{◌≡◌, map, Some};
-ghost use Rattle.cdc_tree.specs.Plain.{plain};
+ghost use Rattle.std.specs.Prelude.{◌≡◌, Some};
+ghost use Rattle.cdc_tree.specs.Plain.{Plain, plain};
 ghost use Rattle.cdc_parse.specs.Tokens.{Gives, name_at};
-ghost use Rattle.cdc_parse.specs.Reading as r;
 ghost use Rattle.cdc_tree.specs.Forms as v;
+ghost use Rattle.cdc_tree.specs.Forms.{PSpot};
+ghost use Rattle.cdc_tree.specs.declared.tree.Named.{Named as Name};
 ghost use Rattle.cdc_parse.specs.Forms as f;
 
+use crate::commas::{Item, subscripted};
 use crate::kind::{Kind, kind_of};
 use crate::reading::{WHOLE, read};
 use crate::refusal::Unread;
-use crate::token::{after, expect, finished, name_at};
-use cdc_base::List;
+use crate::token::{expect, finished, name_at};
 use cdc_token::{Lexed, Symbol};
 use cdc_tree::{Form, Named, Spot, Tree};
 use std::alloc::Global;
@@ -71,107 +72,41 @@ pub(crate) fn alone(form: Form, tokens: &[Lexed]) -> Result<Form, Unread>
     Ok(form)
 }
 
-/// Names with commas between.
-fn names(alloc: Global, tokens: &[Lexed]) -> Result<(Vec<Named>, &[Lexed]), Unread>
-    ensures { Gives (λ x. (x.0.items, x.1.now)) result (r.separated name_at tokens.now) }
-{
-    let (name, mut rest) = name_at(alloc, tokens)?;
-    let mut items = Vec::new(alloc);
-    items.push(name)?;
-    'items: for _ in 0..rest.len() {
-        match after(Symbol::Comma, rest) {
-            Some(next) => {
-                let (name, next) = name_at(alloc, next)?;
-                items.push(name)?;
-                rest = next;
-            }
-            None => return Ok((items, rest)),
-        }
-    }
-    Ok((items, rest))
-}
+impl Item for Named {
+    ghost Seen = { Name };
 
-/// Expressions with commas between.
-fn numbers(alloc: Global, tokens: &[Lexed]) -> Result<(Vec<Tree>, &[Lexed]), Unread>
-    ensures { Gives (λ x. (map plain x.0.items, x.1.now)) result (r.separated f.number_at tokens.now) }
-{
-    let (tree, mut rest) = number(alloc, tokens)?;
-    let mut items = Vec::new(alloc);
-    items.push(tree)?;
-    'items: for _ in 0..rest.len() {
-        match after(Symbol::Comma, rest) {
-            Some(next) => {
-                let (tree, next) = number(alloc, next)?;
-                items.push(tree)?;
-                rest = next;
-            }
-            None => return Ok((items, rest)),
-        }
-    }
-    Ok((items, rest))
-}
+    ghost seen = { λ n. n };
 
-/// Names up to the parenthesis that closes them.
-pub(crate) fn closed_names(
-    alloc: Global,
-    tokens: &[Lexed],
-) -> Result<(List<Named>, &[Lexed]), Unread>
-    ensures { Gives (λ x. (x.0, x.1.now)) result (r.closed (r.separated name_at) tokens.now) }
-{
-    let (names, rest) = names(alloc, tokens)?;
-    let rest = expect(Symbol::RightParen, rest)?;
-    Ok((List::of(names), rest))
-}
+    ghost item_at = { name_at };
 
-/// Expressions up to the parenthesis that closes them.
-fn closed_numbers(alloc: Global, tokens: &[Lexed]) -> Result<(List<Tree>, &[Lexed]), Unread>
-    ensures { Gives (λ x. (map plain x.0, x.1.now)) result (r.closed (r.separated f.number_at) tokens.now) }
-{
-    let (numbers, rest) = numbers(alloc, tokens)?;
-    let rest = expect(Symbol::RightParen, rest)?;
-    Ok((List::of(numbers), rest))
-}
-
-/// The dummy arguments of a subroutine, where there are any.
-pub(crate) fn dummies(alloc: Global, tokens: &[Lexed]) -> Result<(List<Named>, &[Lexed]), Unread>
-    ensures { Gives (λ x. (x.0, x.1.now)) result (f.in_parens name_at tokens.now) }
-{
-    match after(Symbol::LeftParen, tokens) {
-        Some(rest) => match after(Symbol::RightParen, rest) {
-            Some(rest) => Ok((List::new(alloc), rest)),
-            None => closed_names(alloc, rest),
-        },
-        None => Ok((List::new(alloc), tokens)),
+    fn item(alloc: Global, tokens: &[Lexed]) -> Result<(Named, &[Lexed]), Unread> {
+        name_at(alloc, tokens)
     }
 }
 
-/// The actual arguments of a call, where there are any.
-pub(crate) fn actuals(alloc: Global, tokens: &[Lexed]) -> Result<(List<Tree>, &[Lexed]), Unread>
-    ensures { Gives (λ x. (map plain x.0, x.1.now)) result (f.in_parens f.number_at tokens.now) }
-{
-    match after(Symbol::LeftParen, tokens) {
-        Some(rest) => match after(Symbol::RightParen, rest) {
-            Some(rest) => Ok((List::new(alloc), rest)),
-            None => closed_numbers(alloc, rest),
-        },
-        None => Ok((List::new(alloc), tokens)),
-    }
-}
+impl Item for Tree {
+    ghost Seen = { Plain };
 
-fn subscripts(alloc: Global, tokens: &[Lexed]) -> Result<(List<Tree>, &[Lexed]), Unread>
-    ensures { Gives (λ x. (map plain x.0, x.1.now)) result (f.subscripted f.number_at tokens.now) }
-{
-    match after(Symbol::LeftParen, tokens) {
-        Some(rest) => closed_numbers(alloc, rest),
-        None => Ok((List::new(alloc), tokens)),
+    ghost seen = { plain };
+
+    ghost item_at = { f.number_at };
+
+    fn item(alloc: Global, tokens: &[Lexed]) -> Result<(Tree, &[Lexed]), Unread> {
+        number(alloc, tokens)
     }
 }
 
 /// What an assignment or a READ stores into.
-pub(crate) fn spot(alloc: Global, tokens: &[Lexed]) -> Result<(Spot, &[Lexed]), Unread>
-    ensures { Gives (λ x. (v.spot x.0, x.1.now)) result (f.spot_at tokens.now) }
-{
-    let (name, rest) = name_at(alloc, tokens)?;
-    let (subs, rest) = subscripts(alloc, rest)?;
-    Ok((Spot { name, subs }, rest))
+impl Item for Spot {
+    ghost Seen = { PSpot };
+
+    ghost seen = { v.spot };
+
+    ghost item_at = { f.spot_at };
+
+    fn item(alloc: Global, tokens: &[Lexed]) -> Result<(Spot, &[Lexed]), Unread> {
+        let (name, rest) = name_at(alloc, tokens)?;
+        let (subs, rest) = subscripted(alloc, rest)?;
+        Ok((Spot { name, subs }, rest))
+    }
 }

@@ -1,12 +1,13 @@
 //! Statements that may follow the condition of a logical IF: an assignment, CALL, PRINT and READ.
 
-ghost use Rattle.std.specs.Prelude.{◌≡◌, map, [], length, Some};
+ghost use Rattle.std.specs.Prelude.{◌≡◌, Some};
 ghost use Rattle.cdc_parse.specs.Tokens.{Gives};
-ghost use Rattle.cdc_parse.specs.Reading as r;
 ghost use Rattle.cdc_tree.specs.Forms as v;
+ghost use Rattle.cdc_tree.specs.Forms.{PShown};
 ghost use Rattle.cdc_parse.specs.Forms as f;
 
-use crate::parts::{actuals, alone, number, spot};
+use crate::commas::{Item, in_parens, more};
+use crate::parts::{alone, number};
 use crate::refusal::Unread;
 use crate::token::{after, copied, expect, name_at, word_at};
 use crate::word::Word;
@@ -18,7 +19,7 @@ use std::alloc::Global;
 fn assign(alloc: Global, tokens: &[Lexed]) -> Result<Form, Unread>
     ensures { Gives v.form result (f.assign_at tokens.now) }
 {
-    let (target, rest) = spot(alloc, tokens)?;
+    let (target, rest) = Spot::item(alloc, tokens)?;
     let rest = expect(Symbol::Assign, rest)?;
     let (value, rest) = number(alloc, rest)?;
     alone(Form::Assign(target, value), rest)
@@ -28,69 +29,37 @@ fn call(alloc: Global, tokens: &[Lexed]) -> Result<Form, Unread>
     ensures { Gives v.form result (f.call_at tokens.now) }
 {
     let (name, rest) = name_at(alloc, tokens)?;
-    let (actuals, rest) = actuals(alloc, rest)?;
+    let (actuals, rest) = in_parens(alloc, rest)?;
     alone(Form::Call(name, actuals), rest)
 }
 
 /// A text or an expression.
-fn shown(alloc: Global, tokens: &[Lexed]) -> Result<(Shown, &[Lexed]), Unread>
-    ensures { Gives (λ x. (v.shown x.0, x.1.now)) result (f.shown_at tokens.now) }
-{
-    match tokens {
-        [] => Err(Unread::NotAStatement),
-        [first, rest @ ..] => match &first.token {
-            Token::Text(text) => Ok((Shown::Text(copied(alloc, text.as_slice())?), rest)),
-            _ => {
-                let (value, rest) = number(alloc, tokens)?;
-                Ok((Shown::Value(value), rest))
-            }
-        },
-    }
-}
+impl Item for Shown {
+    ghost Seen = { PShown };
 
-/// Each item after a comma.
-fn all_shown(alloc: Global, tokens: &[Lexed]) -> Result<(Vec<Shown>, &[Lexed]), Unread>
-    ensures { Gives (λ x. (map v.shown x.0.items, x.1.now)) result (r.more f.shown_at (length tokens.now) [] tokens.now) }
-{
-    let mut items = Vec::new(alloc);
-    let mut rest = tokens;
-    'items: for _ in 0..tokens.len() {
-        match after(Symbol::Comma, rest) {
-            Some(next) => {
-                let (item, next) = shown(alloc, next)?;
-                items.push(item)?;
-                rest = next;
-            }
-            None => return Ok((items, rest)),
+    ghost seen = { v.shown };
+
+    ghost item_at = { f.shown_at };
+
+    fn item(alloc: Global, tokens: &[Lexed]) -> Result<(Shown, &[Lexed]), Unread> {
+        match tokens {
+            [] => Err(Unread::NotAStatement),
+            [first, rest @ ..] => match &first.token {
+                Token::Text(text) => Ok((Shown::Text(copied(alloc, text.as_slice())?), rest)),
+                _ => {
+                    let (value, rest) = number(alloc, tokens)?;
+                    Ok((Shown::Value(value), rest))
+                }
+            },
         }
     }
-    Ok((items, rest))
-}
-
-/// Each target after a comma.
-fn spots(alloc: Global, tokens: &[Lexed]) -> Result<(Vec<Spot>, &[Lexed]), Unread>
-    ensures { Gives (λ x. (map v.spot x.0.items, x.1.now)) result (r.more f.spot_at (length tokens.now) [] tokens.now) }
-{
-    let mut items = Vec::new(alloc);
-    let mut rest = tokens;
-    'items: for _ in 0..tokens.len() {
-        match after(Symbol::Comma, rest) {
-            Some(next) => {
-                let (item, next) = spot(alloc, next)?;
-                items.push(item)?;
-                rest = next;
-            }
-            None => return Ok((items, rest)),
-        }
-    }
-    Ok((items, rest))
 }
 
 fn print(alloc: Global, tokens: &[Lexed]) -> Result<Form, Unread>
     ensures { Gives v.form result (f.print_at tokens.now) }
 {
     let rest = expect(Symbol::Star, tokens)?;
-    let (items, rest) = all_shown(alloc, rest)?;
+    let (items, rest) = more(alloc, Vec::new(alloc), rest)?;
     alone(Form::Print(List::of(items)), rest)
 }
 
@@ -98,7 +67,7 @@ fn read(alloc: Global, tokens: &[Lexed]) -> Result<Form, Unread>
     ensures { Gives v.form result (f.read_at tokens.now) }
 {
     let rest = expect(Symbol::Star, tokens)?;
-    let (targets, rest) = spots(alloc, rest)?;
+    let (targets, rest) = more(alloc, Vec::new(alloc), rest)?;
     alone(Form::Read(List::of(targets)), rest)
 }
 

@@ -1,8 +1,0 @@
-use Rattle.std.proofs.Common.{◌≡◌, ◌-◌, map, [], length}
-use Rattle.cdc_tree.specs.Forms as v
-use Rattle.cdc_parse.specs.Forms as f
-use Rattle.cdc_parse.specs.Reading.{more}
-use Rattle.cdc_parse.proofs.simple.all_shown.Given as goal
-
-abbrev pub invariant-items : goal.invariant-items
-invariant-items l = more f.shown_at (l.end - l.counter) (map v.shown l.items.items) l.rest ≡ more f.shown_at (length l.tokens) [] l.tokens
