@@ -10,6 +10,7 @@ use Rattle.cdc_prog.specs.Alone.{Access, Read, Write, accesses, ending}
 use Rattle.cdc_prog.specs.Apart.{Touches, Start, IsReached, First, After, IsReachedIteration}
 use Rattle.cdc_path.specs.Covers.{HasCover}
 use Rattle.cdc_along.specs.Sites.{SitesStandOnce}
+use Rattle.cdc_along.specs.Programs.{KeepsCovers}
 use Rattle.cdc_along.proofs.InCovers.{Words, and_word, CoversHold, program_covered}
 
 no_access : (made rest : List Access) (path : List ℕ) (site w : ℕ) (v : ℤ) → [] ≡ made ++ (Read path site w v ∷ rest) → ⊥
@@ -78,12 +79,20 @@ module _ (p : Program) where
   touched made w (inl h) = h
   touched made w (inr h) = absurd h
 
-module _ (p : Program) (records : Input) (s : Store) (made rest : List Access) (path : List ℕ) (site w : ℕ) (v : ℤ) (r : IsResolved p) (none : HasNoCall p) (sites : SitesStandOnce p) where
-  all : (u : Store) → CoversHold p (λ x. ⊥) (process_of p records) u
-  all u = program_covered p records u r none sites
+module _ (p : Program) (r : IsResolved p) (none : HasNoCall p) (sites : SitesStandOnce p) where
+  all : (records : Input) (u : Store) → CoversHold p (λ x. ⊥) (process_of p records) u
+  all records u = program_covered p records u r none sites
 
-  pub serial_covered : (start : Start) (task : Process) → IsReached (process_of p records) start task → accesses task s ≡ made ++ (Read path site w v ∷ rest) → 1 ≤ site → HasCover p site → Touches made w
-  serial_covered start task reached e lt has = touched p made w (reads_covered p (λ x. ⊥) task s made rest path site w v (reached_covered p (process_of p records) all start task reached s) e lt has)
+  serial_covered : (records : Input) (s : Store) (made rest : List Access) (path : List ℕ) (site w : ℕ) (v : ℤ) (start : Start) (task : Process) → IsReached (process_of p records) start task
+      → accesses task s ≡ made ++ (Read path site w v ∷ rest) → 1 ≤ site → HasCover p site → Touches made w
+  serial_covered records s made rest path site w v start task reached e lt has =
+      touched p made w (reads_covered p (λ x. ⊥) task s made rest path site w v (reached_covered p (process_of p records) (all records) start task reached s) e lt has)
 
-  pub forked_covered : (at : List ℕ) (number k : ℕ) (task : Process) → IsReachedIteration (process_of p records) at number k task → accesses task s ≡ made ++ (Read path site w v ∷ rest) → 1 ≤ site → HasCover p site → Touches made w
-  forked_covered at number k task reached e lt has = touched p made w (reads_covered p (λ x. ⊥) task s made rest path site w v (iteration_covered p (process_of p records) all at number k task reached s) e lt has)
+  forked_covered : (records : Input) (s : Store) (made rest : List Access) (path : List ℕ) (site w : ℕ) (v : ℤ) (at : List ℕ) (number k : ℕ) (task : Process) → IsReachedIteration (process_of p records) at number k task
+      → accesses task s ≡ made ++ (Read path site w v ∷ rest) → 1 ≤ site → HasCover p site → Touches made w
+  forked_covered records s made rest path site w v at number k task reached e lt has =
+      touched p made w (reads_covered p (λ x. ⊥) task s made rest path site w v (iteration_covered p (process_of p records) (all records) at number k task reached s) e lt has)
+
+  -- the covered reads of a program without CALL
+  pub covers_kept : KeepsCovers p
+  covers_kept = record { serial = serial_covered; iteration = forked_covered }

@@ -14,6 +14,7 @@ use Rattle.cdc_path.specs.PathExpr.{Visit}
 use Rattle.cdc_path.specs.Marks.{visit}
 use Rattle.cdc_along.specs.Along.{Begins, Along}
 use Rattle.cdc_along.specs.Tasks.{passed, IsAtStart, GoesOn, LiesAlong}
+use Rattle.cdc_along.specs.Programs.{HasTasksAlong}
 use Rattle.cdc_along.proofs.Along.{begins, enters}
 use Rattle.cdc_along.proofs.Trees.{program_along}
 
@@ -69,15 +70,21 @@ module _ (Ends : List Visit → Type 0) (main : Process) (h : (s : Store) → Al
       let fork = subst (λ e. Along Ends (passed (accesses i.task i.store) t) e (left i.task i.store)) i.forks (comes Ends t i.task i.store (along i.store)) in
       (passed (accesses i.task i.store) t, i.next, λ s. subst (λ q. Along (λ u. (r : Store) → Along Ends (visit path (Exit number) ∷ u) i.next r) (visit path (Entry number) ∷ passed (accesses i.task i.store) t) q s) (sym i.is) (fork.1 k i.below s))
 
-pub serial_tasks : (p : Program) (records : Input) (start : Start) (task : Process) (s : Store) → IsResolved p → IsReached (process_of p records) start task → (t : List Visit) × IsAtStart start t × LiesAlong (IsPath p) t task s
-serial_tasks p records start task s r reached =
-    let (t, at, along) = reached_along (IsPath p) (process_of p records) (λ u. program_along p records u r) start task reached in
-    (t, at, lies_along (IsPath p) t task s (along s))
+module _ (p : Program) (r : IsResolved p) where
+  serial_tasks : (records : Input) (start : Start) (task : Process) (s : Store) → IsReached (process_of p records) start task → (t : List Visit) × IsAtStart start t × LiesAlong (IsPath p) t task s
+  serial_tasks records start task s reached =
+      let (t, at, along) = reached_along (IsPath p) (process_of p records) (λ u. program_along p records u r) start task reached in
+      (t, at, lies_along (IsPath p) t task s (along s))
 
-pub iterations : (p : Program) (records : Input) (path : List ℕ) (number k : ℕ) (task : Process) (s : Store) → IsResolved p → IsReachedIteration (process_of p records) path number k task
-    → (before : List Visit) × LiesAlong (λ u. Begins (IsPath p) (visit path (Exit number) ∷ u)) (visit path (Entry number) ∷ before) task s
-iterations p records path number k task s r reached =
-    let (before, next, along) = iteration_along (IsPath p) (process_of p records) (λ u. program_along p records u r) path number k task reached in
-    let Left : List Visit → Type 0 = λ u. (m : Store) → Along (IsPath p) (visit path (Exit number) ∷ u) next m in
-    let entered = visit path (Entry number) ∷ before in
-    (before, otherwise Left (λ u. Begins (IsPath p) (visit path (Exit number) ∷ u)) (λ u h. begins (IsPath p) (visit path (Exit number) ∷ u) next zeros (h zeros)) (ending task s) (passed (accesses task s) entered) (lies_along Left entered task s (along s)))
+  iterations : (records : Input) (path : List ℕ) (number k : ℕ) (task : Process) (s : Store) → IsReachedIteration (process_of p records) path number k task
+      → (before : List Visit) × LiesAlong (λ u. Begins (IsPath p) (visit path (Exit number) ∷ u)) (visit path (Entry number) ∷ before) task s
+  iterations records path number k task s reached =
+      let (before, next, along) = iteration_along (IsPath p) (process_of p records) (λ u. program_along p records u r) path number k task reached in
+      let Left : List Visit → Type 0 = λ u. (m : Store) → Along (IsPath p) (visit path (Exit number) ∷ u) next m in
+      let entered = visit path (Entry number) ∷ before in
+      let Ends : List Visit → Type 0 = λ u. Begins (IsPath p) (visit path (Exit number) ∷ u) in
+      (before, otherwise Left Ends (λ u h. begins (IsPath p) (visit path (Exit number) ∷ u) next zeros (h zeros)) (ending task s) (passed (accesses task s) entered) (lies_along Left entered task s (along s)))
+
+  -- the tasks of a resolved program
+  pub tasks_along : HasTasksAlong p
+  tasks_along = record { serial = serial_tasks; iteration = iterations }

@@ -1,5 +1,5 @@
--- Tasks make their accesses along the paths of their program.
-use Rattle.std.specs.Prelude.{◌≡◌, ℕ, suc, ◌≤◌, min, slice_get, Some, Bool, true, false, ℤ, List, [], ◌∷◌, ◌++◌}
+-- What holds of programs, of what their tasks have passed, and of their marks.
+use Rattle.std.specs.Prelude.{◌≡◌, ℕ, suc, ◌≤◌, min, slice_get, Some, Bool, true, false, List, ◌∷◌, ◌++◌}
 use Rattle.cdc_num.specs.declared.triplet.Triplet.{Triplet}
 use Rattle.cdc_prog.specs.declared.program.Mark.{Mark}
 use Rattle.cdc_prog.specs.declared.program.Mark.TheVariants.{Ordinary, Time}
@@ -7,16 +7,11 @@ use Rattle.cdc_prog.specs.declared.program.Marks.{Marks}
 use Rattle.cdc_prog.specs.Plain.{Program}
 use Rattle.cdc_prog.specs.Marked.{mark_of}
 use Rattle.cdc_prog.specs.Data.{Store}
-use Rattle.cdc_prog.specs.Input.{Input}
 use Rattle.cdc_prog.specs.Process.{Process}
 use Rattle.cdc_prog.specs.Resolved.{IsResolved, HasNoCall}
 use Rattle.cdc_prog.specs.Premises.{KeepsLoopVariables}
 use Rattle.cdc_prog.specs.Iterations.{IsIn, KeepsIndexes}
 use Rattle.cdc_prog.specs.Sections.{Overlap}
-use Rattle.cdc_prog.specs.Units.{process_of}
-use Rattle.cdc_prog.specs.Alone as alone
-use Rattle.cdc_prog.specs.Alone.{Access, accesses}
-use Rattle.cdc_prog.specs.Apart.{Touches as Accessed, Start, IsReached, IsReachedIteration}
 use Rattle.cdc_path.specs.declared.point.Point.{Point}
 use Rattle.cdc_path.specs.declared.point.Point.TheVariants.{Read, Write, Entry, Exit}
 use Rattle.cdc_path.specs.PathExpr.{Visit, boundaries}
@@ -25,20 +20,17 @@ use Rattle.cdc_path.specs.References.{Touches}
 use Rattle.cdc_path.specs.Covers.{HasCover}
 use Rattle.cdc_path.specs.Marks.{visit, Counts, LeadsTo, AreMarks}
 use Rattle.cdc_along.specs.Along.{Begins, Along}
-use Rattle.cdc_along.specs.Tasks.{IsAtStart, LiesAlong}
 use Rattle.cdc_along.specs.Sites.{SitesStandOnce}
-use Rattle.cdc_along.specs.Sections.{LiesInSection, EachInOrder}
+use Rattle.cdc_along.specs.Sections.{LiesInSection}
+use Rattle.cdc_along.specs.Programs.{GoesAlong, HasTasksAlong, KeepsSections, KeepsCovers}
 
--- a resolved program goes along its own paths, on every store
+-- a resolved program goes along its own paths
 abbrev pub ProgramsGoAlong : Type 0
-ProgramsGoAlong = (p : Program) (records : Input) (s : Store) → IsResolved p → Along (IsPath p) [] (process_of p records) s
+ProgramsGoAlong = (p : Program) → IsResolved p → GoesAlong p
 
--- each reached task makes its accesses along a path, alone on every store: a serial task from the beginning of the program or the exit of a DOALL to the entry of the next DOALL or the end of the path, an iteration from the entry of its DOALL to the exit
-pub record TasksLieAlong : Type 0 where
-  pub serial : (p : Program) (records : Input) (start : Start) (task : Process) (s : Store) → IsResolved p → IsReached (process_of p records) start task
-      → (t : List Visit) × IsAtStart start t × LiesAlong (IsPath p) t task s
-  pub iteration : (p : Program) (records : Input) (path : List ℕ) (number k : ℕ) (task : Process) (s : Store) → IsResolved p → IsReachedIteration (process_of p records) path number k task
-      → (before : List Visit) × LiesAlong (λ u. Begins (IsPath p) (visit path (Exit number) ∷ u)) (visit path (Entry number) ∷ before) task s
+-- and so do its reached tasks
+abbrev pub TasksLieAlong : Type 0
+TasksLieAlong = (p : Program) → IsResolved p → HasTasksAlong p
 
 -- from the exit of its DOALL, behind the points that an iteration has passed, what follows goes along paths on every store
 abbrev pub Leaves : Program → (path : List ℕ) → (number : ℕ) → (next : Process) → List Visit → Type 0
@@ -55,23 +47,18 @@ pub record PassedIsOnPath : Type 0 where
       → Begins (IsPath p) (visit path b ∷ (between ++ (visit write_path (Write write_site) ∷ before))) → boundaries between ≡ 0
       → Touches p true write_path write_site object section → LeadsTo p b object
 
--- in order on one store, each access of a program without CALL lies in the section of its site, where no DO stores in its variable and no DOALL in its index; and so does each access of the iterations of its forks, alone on the store on which the fork comes
+-- each access of a program without CALL lies in the section of its site, where no DO stores in its variable and no DOALL in its index
 abbrev pub SectionsHold : Type 0
-SectionsHold = (p : Program) (records : Input) (s : Store) → IsResolved p → HasNoCall p → KeepsLoopVariables p → KeepsIndexes p → EachInOrder (LiesInSection p) (process_of p records) s
+SectionsHold = (p : Program) → IsResolved p → HasNoCall p → KeepsLoopVariables p → KeepsIndexes p → KeepsSections p
 
 -- two accesses of one word touch one object, in sections that overlap
 abbrev pub SectionsOverlap : Type 0
 SectionsOverlap = (p : Program) (writes also : Bool) (path other : List ℕ) (site far word : ℕ) → IsResolved p → LiesInSection p writes path site word → LiesInSection p also other far word
     → (object : ℕ) × (s : List Triplet) × (t : List Triplet) × Touches p writes path site object s × Touches p also other far object t × Overlap s t
 
--- in a reached task of a program without CALL, alone on any store, a read whose site has a cover is of a word that this task has accessed before
-pub record CoversAreAccessed : Type 0 where
-  pub serial : (p : Program) (records : Input) (s : Store) (made rest : List Access) (path : List ℕ) (site w : ℕ) (v : ℤ) → IsResolved p → HasNoCall p → SitesStandOnce p
-      → (start : Start) (task : Process) → IsReached (process_of p records) start task
-      → accesses task s ≡ made ++ (alone.Read path site w v ∷ rest) → 1 ≤ site → HasCover p site → Accessed made w
-  pub iteration : (p : Program) (records : Input) (s : Store) (made rest : List Access) (path : List ℕ) (site w : ℕ) (v : ℤ) → IsResolved p → HasNoCall p → SitesStandOnce p
-      → (at : List ℕ) (number k : ℕ) (task : Process)
-      → IsReachedIteration (process_of p records) at number k task → accesses task s ≡ made ++ (alone.Read path site w v ∷ rest) → 1 ≤ site → HasCover p site → Accessed made w
+-- a read of a program without CALL that has a cover is of a word that its task has accessed before, where no two references have one site
+abbrev pub CoversAreAccessed : Type 0
+CoversAreAccessed = (p : Program) → IsResolved p → HasNoCall p → SitesStandOnce p → KeepsCovers p
 
 -- what the mark of a read says of a write over k boundaries: the read has a cover where it is ordinary, and else the mark is at most k, cut at 255
 abbrev pub Tells : Program → (site k : ℕ) → Mark → Type 0

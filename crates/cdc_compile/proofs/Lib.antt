@@ -15,5 +15,6 @@ pub mod Roomy
 pub mod Slots
 pub mod RoomLaws
 pub mod Conflicting
+pub mod SitesOnce
 pub mod Coded
 pub mod Sound

@@ -100,6 +100,18 @@ units_laid main units k (Ok l) q h =
     let p : plain.Program = record { units = units; main = main; objects = l.0; texts = k.texts; sites = k.sites; doalls = k.doalls; words = l.1 } in
     units_of_ok (program_numbered p) q (unless_true (nat_lt 16384 k.sites) (refusal.TooMany kind.Sites) (Ok (program_numbered p)) q h)
 
+unless_false : (b : Bool) (e : CheckRefusal) (r : Result plain.Program CheckRefusal) (q : plain.Program) → (if b then Err e else r) ≡ Ok q → b ≡ false
+unless_false true e r q h = cc
+unless_false false e r q h = refl
+
+sites_few : (main : ℕ) (units : List plain.ProgramUnit) (k : Progress) (laid : Result (List Object × ℕ) CheckRefusal) (q : plain.Program) → with_layout main units k laid ≡ Ok q → k.sites ≤ 16384
+sites_few main units k (Err e) q h = cc
+sites_few main units k (Ok l) q h =
+    not_more k.sites (unless_false (nat_lt 16384 k.sites) (refusal.TooMany kind.Sites) (Ok (program_numbered (record { units = units; main = main; objects = l.0; texts = k.texts; sites = k.sites; doalls = k.doalls; words = l.1 }))) q h)
+  where
+    not_more : (n : ℕ) → nat_lt 16384 n ≡ false → n ≤ 16384
+    not_more n h = grind arith
+
 -- what units resolve to
 abbrev resolved_from : List PUnit → List plain.ProgramUnit × Whole
 resolved_from us = each (units_from 0 us (map scope_of us)) nothing_yet
@@ -108,6 +120,7 @@ pub record Passed (us : List PUnit) (q : plain.Program) : Type 0 where
   pub shapes : EachNone shape_in (map scope_of us)
   pub few : Few us
   pub units_are : q.units ≡ units_numbered 0 ((resolved_from us).0)
+  pub sites : (resolved_from us).1.progress.sites ≤ 16384
 
 pub passed : (us : List PUnit) (q : plain.Program) → checked us ≡ Ok q → Passed us q
 passed us q h =
@@ -117,7 +130,7 @@ passed us q h =
     let a : (names_refused us ss ≡ None) × (unless_refused (counts_refused us) (finished main r) ≡ Ok q) = unless_none (names_refused us ss) (unless_refused (counts_refused us) (finished main r)) q h in
     let b : (counts_refused us ≡ None) × (finished main r ≡ Ok q) = unless_none (counts_refused us) (finished main r) q a.1 in
     let c : with_layout main r.0 r.1.progress (layout r.1.objects) ≡ Ok q = unless_true (nat_lt 1024 (length r.1.objects)) (refusal.TooMany kind.Objects) (with_layout main r.0 r.1.progress (layout r.1.objects)) q b.1 in
-    record { shapes = none_first shape_in ss (no_shape us ss a.0); few = few us b.0; units_are = units_laid main r.0 r.1.progress (layout r.1.objects) q c }
+    record { shapes = none_first shape_in ss (no_shape us ss a.0); few = few us b.0; units_are = units_laid main r.0 r.1.progress (layout r.1.objects) q c; sites = sites_few main r.0 r.1.progress (layout r.1.objects) q c }
 
 -- ---- units
 

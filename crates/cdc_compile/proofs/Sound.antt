@@ -1,9 +1,10 @@
 -- The code of an accepted source.
-use Rattle.std.proofs.Common.{◌≡◌, ℕ, ◌+◌, ◌<◌, List, [], ◌∷◌, length, refl, sym, subst, arith}
+use Rattle.std.proofs.Common.{◌≡◌, ℕ, ◌+◌, ◌<◌, List, [], ◌∷◌, length, Ok, refl, sym, subst, arith}
 use Rattle.std.specs.List.{All}
 use Rattle.std.proofs.lemmas.List.Elements.{All-nil, All-cons, All-head, All-tail}
 use Rattle.cdc_tree.specs.Units.{PUnit}
 use Rattle.cdc_nest.specs.Units.{mains}
+use Rattle.cdc_prog.specs.declared.program.Marks.{Marks}
 use Rattle.cdc_prog.specs.Plain as plain
 use Rattle.cdc_prog.specs.Numbered.{calls_in, units_numbered}
 use Rattle.cdc_prog.specs.Iterations.{KeepsPremises}
@@ -14,15 +15,17 @@ use Rattle.cdc_names.specs.Scopes.{PScope}
 use Rattle.cdc_check.specs.Threads.{each, next}
 use Rattle.cdc_check.specs.Units.{Whole, unit_in, units_from, nothing_yet}
 use Rattle.cdc_check.proofs.Accepted.{accepted_keeps_premises, accepted_calls_nothing, accepted_doalls_numbered}
-use Rattle.cdc_along.proofs.InSections.{program_in_sections}
-use Rattle.cdc_along.proofs.Trees.{program_along}
+use Rattle.cdc_along.specs.Sites.{SitesStandOnce}
+use Rattle.cdc_code.specs.declared.code.Code.{Code}
 use Rattle.cdc_code.specs.Template.{HasCallNumbers, code_of}
-use Rattle.cdc_compile.specs.Source.{HasBuiltUnits}
+use Rattle.cdc_compile.specs.Source.{HasBuiltUnits, IsProgramOf}
+use Rattle.cdc_compile.specs.Compiled.{IsSoundCodeOf}
 use Rattle.cdc_compile.specs.Laws.{AcceptedIsSound}
 use Rattle.cdc_compile.proofs.Nested.{are_built}
 use Rattle.cdc_compile.proofs.RoomLaws.{Passed, passed, has_room, numbers}
 use Rattle.cdc_compile.proofs.Conflicting.{no_conflict_apart}
-use Rattle.cdc_compile.proofs.Coded.{emitted_sound}
+use Rattle.cdc_compile.proofs.Coded.{sound_code}
+use Rattle.cdc_compile.proofs.SitesOnce.{sites_once}
 
 -- units without dummies
 abbrev Bare : List plain.ProgramUnit → Type 0
@@ -54,11 +57,15 @@ accepted_is_sound source p h =
     let numbered : HasCallNumbers p = subst HasCallNumbers (without_calls p (uncalled p premises.resolved calls)) (numbers p) in
     let apart = no_conflict_apart p premises (accepted_doalls_numbered us p h.0.accepted built some) h.1 in
     let done : Passed us p = passed us p h.0.accepted in
+    let sites : SitesStandOnce p = sites_once us p h.0.accepted in
     record {
       premises = premises;
       calls = calls;
       bare = subst Bare (sym done.units_are) (numbered_bare 0 _ (units_bare 0 us _ nothing_yet));
-      sound = λ marks. emitted_sound p marks (code_of p marks) premises apart numbered (has_room source p h.0) refl;
-      along = λ records s. program_along p records s premises.resolved;
-      sections = λ records s. program_in_sections p records s premises.resolved calls premises.loops premises.indexes;
+      sites = sites;
+      sound = λ marks. sound_code p marks premises calls sites apart numbered (has_room source p h.0);
     }
+
+-- the same of code that is known to be its code
+pub emitted_sound : (source : List ℕ) (p : plain.Program) (marks : Marks) (code : Code) → IsProgramOf source (Ok p) → code ≡ code_of p marks → IsSoundCodeOf p marks code
+emitted_sound source p marks code h is = subst (IsSoundCodeOf p marks) (sym is) ((accepted_is_sound source p h).sound marks)

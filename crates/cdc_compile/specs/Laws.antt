@@ -3,14 +3,9 @@ use Rattle.std.specs.Prelude.{◌≡◌, ◌≢◌, ℕ, List, [], Result, Ok, E
 use Rattle.std.specs.List.{All}
 use Rattle.cdc_prog.specs.declared.program.Marks.{Marks}
 use Rattle.cdc_prog.specs.Plain as plain
-use Rattle.cdc_prog.specs.Data.{Store}
-use Rattle.cdc_prog.specs.Input.{Input}
 use Rattle.cdc_prog.specs.Resolved.{HasNoCall}
-use Rattle.cdc_prog.specs.Units.{process_of}
 use Rattle.cdc_prog.specs.Iterations.{KeepsPremises}
-use Rattle.cdc_path.specs.Courses.{IsPath}
-use Rattle.cdc_along.specs.Along.{Along}
-use Rattle.cdc_along.specs.Sections.{LiesInSection, EachInOrder}
+use Rattle.cdc_along.specs.Sites.{SitesStandOnce}
 use Rattle.cdc_code.specs.Template.{code_of}
 use Rattle.cdc_compile.specs.declared.refusal.Refusal.{Refusal}
 use Rattle.cdc_compile.specs.declared.refusal.Refusal.TheVariants.{Memory}
@@ -25,14 +20,13 @@ HasOneAnswer = (source : List ℕ) (a b : Result plain.Program Refusal) → IsPr
 abbrev pub IsCompiledOnce : Type 0
 IsCompiledOnce = (source : List ℕ) (p q : plain.Program) (m n : Marks) → IsCompiledTo source p m → IsCompiledTo source q n → (p ≡ q) × (m ≡ n)
 
--- of a source that is accepted: its program keeps the premises, it has no CALL and no unit has dummies, and its code is sound, whatever the marks in it. On every input and every store the program goes along its paths, by which its marks are defined, and each access lies in the section of its site
+-- of a source that is accepted: its program keeps the premises, it has no CALL and no unit has dummies, no two of its references have one site, and its code is sound, whatever the marks in it
 pub record IsAccepted (source : List ℕ) (p : plain.Program) : Type 0 where
   pub premises : KeepsPremises p
   pub calls : HasNoCall p
   pub bare : All (λ u. u.dummies ≡ []) p.units
+  pub sites : SitesStandOnce p
   pub sound : (marks : Marks) → IsSoundCodeOf p marks (code_of p marks)
-  pub along : (records : Input) (s : Store) → Along (IsPath p) [] (process_of p records) s
-  pub sections : (records : Input) (s : Store) → EachInOrder (LiesInSection p) (process_of p records) s
 
 abbrev pub AcceptedIsSound : Type 0
 AcceptedIsSound = (source : List ℕ) (p : plain.Program) → IsProgramOf source (Ok p) → IsAccepted source p

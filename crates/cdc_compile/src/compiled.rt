@@ -47,7 +47,8 @@ pub fn compile(alloc: Global, source: &[u8]) -> Result<Compiled, Refusal>
     // The iterations of a DOALL do not meet, wherever one is reached, whatever the input is.
     ensures apart { IfOk result (λ c. (records : Input) → IsApart (process_of (program_of c.program) records)) }
 
-    // The code does what the program does, within the room of a task.
+    // The code does what the program does, within the room of a task. The tasks of the program keep to the paths, the sections
+    // and the covers by which its marks are defined.
     ensures sound { IfOk result (λ c. IsSoundCodeOf (program_of c.program) c.marks c.code) }
 {
     let program = program(alloc, source)?;

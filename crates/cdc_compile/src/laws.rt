@@ -8,8 +8,8 @@ pub fn one_answer()
     ensures compiled { IsCompiledOnce }
 {}
 
-/// The code of an accepted source is sound, and its program goes along the paths by which its marks are defined, with each
-/// access in the section of its site.
+/// The code of an accepted source is sound. No two references of its program have one site, and its tasks keep to the paths,
+/// the sections and the covers by which its marks are defined.
 pub fn accepted_sources()
     ensures { AcceptedIsSound }
 {}
