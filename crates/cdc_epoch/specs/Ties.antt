@@ -17,6 +17,7 @@ use Rattle.cdc_task.specs.Held.{Held, StandsIn, resumed, begun}
 use Rattle.cdc_prog.specs.Trips.{HasIndexes}
 use Rattle.cdc_task.specs.Steps.{GoesOn, Quiet}
 use Rattle.cdc_machine.specs.declared.effect.Effect.{Effect}
+use Rattle.cdc_machine.specs.declared.effect.Effect.TheVariants.{Stepped}
 use Rattle.cdc_machine.specs.Machine.{TaskOf, Waiting, Running, Ended, PhaseOf, Serial, Doall, Over, DeedOf, Drops, task_fault, call_by, call, acted, done, act_effect, told}
 use Rattle.cdc_machine.specs.Laws.{IsOver}
 use Rattle.cdc_machine.specs.Code.{State, entry_of, exit_of, run}
@@ -151,6 +152,11 @@ pub record Comes {F : Type 0} (side : Ghosts F) (c : Option Call) (to : (v : ℤ
   pub stays : Stays side old.side new.side
   pub stands : Ties side new (to v)
   pub effect : answer ≡ tells
+
+-- what is told of an instruction: a step, or this
+abbrev pub told_by : (stepped : Bool) → Effect → Effect
+told_by true e = Stepped
+told_by false e = e
 
 -- the engine did what is enabled
 abbrev pub DoesDeed : {F : Type 0} (side : Ghosts F) → DeedOf Frame → State → (old : Engine F side) → Effect → (new : Engine F side) → Type 0

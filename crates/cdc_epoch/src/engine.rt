@@ -117,8 +117,31 @@ fn lesser(least: Option<Faulting>, task: u32, fault: Fault) -> Faulting
     }
 }
 
+// Notes that an iteration has faulted.
+#[cold]
+#[inline(never)]
+fn note_fault(least: &mut Option<Faulting>, task: u32, kind: FaultKind, line: u32)
+    ensures { least.new ≡ Some (lesser_fault least.old task (record { kind = kind; line = line })) }
+{
+    *least = Some(lesser(*least, task, Fault { kind, line }));
+}
+
+// The serial task has forked a DOALL.
+#[cold]
+#[inline(never)]
+fn become_forked(epoch: &mut Epoch, number: u32, count: u32, from: i64, by: i64)
+    ensures { epoch.new ≡ AfterFork (record { number = number; count = count; from = from; by = by }) }
+{
+    *epoch = Epoch::Forked(Fork {
+        number,
+        count,
+        from,
+        by,
+    });
+}
+
 impl<F: Fabric> Engine<F> {
-    ghost use Rattle.cdc_epoch.specs.Ties.{Ties, IsReady, CanApply, IsFree, IsHeld, AllEnded, DoesDeed, DoesAct, StandsFor, processor, counts_of};
+    ghost use Rattle.cdc_epoch.specs.Ties.{Ties, IsReady, CanApply, IsFree, IsHeld, AllEnded, DoesDeed, DoesAct, StandsFor, told_by, processor, counts_of};
 
     /// The machine before its first event, over a memory side at its start.
     ///
@@ -275,7 +298,14 @@ impl<F: Fabric> Engine<F> {
         ensures { (m : State) (at : Frame) → CanApply F.Fabric self.old m → IsHeld m p i at → DoesAct F.Fabric p i at m self.old result self.new }
     {
         match self.epoch {
-            Epoch::Doall(_) => self.act_on_iteration(p, i),
+            Epoch::Doall(_) => {
+                let mut told = Effect::Stepped;
+                if self.act_on_iteration(p, i, &mut told) {
+                    Effect::Stepped
+                } else {
+                    told
+                }
+            }
             _ => self.act_on_serial(p),
         }
     }
@@ -299,12 +329,7 @@ impl<F: Fabric> Engine<F> {
                 by,
             } => {
                 self.roster.end(p);
-                self.epoch = Epoch::Forked(Fork {
-                    number,
-                    count,
-                    from,
-                    by,
-                });
+                become_forked(&mut self.epoch, number, count, from, by);
                 Effect::Stepped
             }
             StepEnd::Joined | StepEnd::Halted => {
@@ -318,26 +343,29 @@ impl<F: Fabric> Engine<F> {
         }
     }
 
-    // The next instruction of an iteration.
-    #[inline(always)]
-    fn act_on_iteration(&mut self, p: u32, i: u32) -> Effect
+    // The next instruction of an iteration: whether a step is all that is told of it. What else is told is handed on.
+    #[inline(never)]
+    fn act_on_iteration(&mut self, p: u32, i: u32, told: &mut Effect) -> bool
         requires proc { p < F.procs self.old.side }
         requires doall { (fork : ForkOf) × (self.old.epoch ≡ InDoall fork) }
         requires held { (m : State) × (at : Frame) × CanApply F.Fabric self.old m × IsHeld m p i at }
-        ensures { (m : State) (at : Frame) → CanApply F.Fabric self.old m → IsHeld m p i at → DoesAct F.Fabric p i at m self.old result self.new }
+        ensures { (m : State) (at : Frame) → CanApply F.Fabric self.old m → IsHeld m p i at → DoesAct F.Fabric p i at m self.old (told_by result told.new) self.new }
     {
         let lane = &mut self.lanes[p as usize];
         match step_on(&mut self.side, p, lane, &self.code, &self.records) {
-            StepEnd::Went => Effect::Stepped,
-            StepEnd::Printed(piece) => Effect::Printed(piece),
+            StepEnd::Went => true,
+            StepEnd::Printed(piece) => {
+                *told = Effect::Printed(piece);
+                false
+            }
             StepEnd::Faulted(kind, line) => {
                 self.roster.end(p);
-                self.fault = Some(lesser(self.fault, i, Fault { kind, line }));
-                Effect::Stepped
+                note_fault(&mut self.fault, i, kind, line);
+                true
             }
             StepEnd::Forked { .. } | StepEnd::Joined | StepEnd::Halted => {
                 self.roster.end(p);
-                Effect::Stepped
+                true
             }
         }
     }

@@ -8,9 +8,10 @@ ghost use Rattle.cdc_code.specs.Rows.{moved};
 ghost use Rattle.cdc_task.specs.Steps.{Fits, Ends, FitsAt, EndsAt};
 
 use crate::end::StepEnd;
+use crate::operators::sum;
 use crate::parts::Open;
 use crate::task::Task;
-use cdc_prog::{BinOp, binary, turns};
+use cdc_prog::turns;
 
 // A place that is so much further.
 #[inline(always)]
@@ -103,7 +104,7 @@ impl Task {
         let Some(open) = self.innermost() else {
             unreachable!();
         };
-        match binary(BinOp::Add, value, open.by) {
+        match sum(value, open.by) {
             Ok(raised) => {
                 self.push(raised);
                 self.advance();

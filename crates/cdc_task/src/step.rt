@@ -10,9 +10,9 @@ use crate::end::StepEnd;
 use crate::port::Port;
 use crate::task::Task;
 use cdc_base::List;
-use cdc_code::{Code, Instr};
+use cdc_code::{Code, Instr, Step};
 use cdc_input::InputRecords;
-use cdc_prog::{BinOp, Piece, UnOp};
+use cdc_prog::{Piece, UnOp};
 
 impl Task {
     /// One instruction of the code for which the task was made. The task stands in a frame that goes on or ends: one
@@ -29,13 +29,7 @@ impl Task {
         let Some(step) = code.steps.as_slice().get(self.pc()) else {
             unreachable!();
         };
-        self.carry_out(
-            code,
-            records.records.as_slice(),
-            port,
-            step.instr,
-            step.line,
-        )
+        self.carry_out(code, records.records.as_slice(), port, step)
     }
 
     // An instruction: those that touch memory, and the others.
@@ -45,45 +39,45 @@ impl Task {
         code: &Code,
         records: &[List<i64>],
         port: &mut P,
-        instr: Instr,
-        line: u32,
+        step: &Step,
     ) -> StepEnd
         requires place { self.old.pc < 2 ^ 63 }
         requires small { P.words port.old < 2 ^ 32 }
-        requires names { NamesRight code.now self.old.unit instr }
-        requires fit { FitsIn (P.words port.old) records.now (does code.now instr line) self.old }
-        ensures step { StepsOn P.Port records.now (does code.now instr line) self.old port.old result self.new port.new }
+        requires names { NamesRight code.now self.old.unit step.now.instr }
+        requires fit { FitsIn (P.words port.old) records.now (does code.now step.now.instr step.now.line) self.old }
+        ensures step { StepsOn P.Port records.now (does code.now step.now.instr step.now.line) self.old port.old result self.new port.new }
         ensures words { P.words port.new ≡ P.words port.old }
     {
-        match instr {
+        match step.instr {
             Instr::Load(var, _, mark) => self.load(code, port, var, mark),
             Instr::Loade(var, _, mark) => self.load_element(code, port, var, mark),
             Instr::Store(var, _) => self.store(code, port, var),
             Instr::Storee(var, _) => self.store_element(code, port, var),
-            _ => self.go_on(code, records, instr, line),
+            _ => self.go_on(code, records, step),
         }
     }
 
     // An instruction that touches no memory.
     #[inline(always)]
-    fn go_on(&mut self, code: &Code, records: &[List<i64>], instr: Instr, line: u32) -> StepEnd
+    fn go_on(&mut self, code: &Code, records: &[List<i64>], step: &Step) -> StepEnd
         requires place { self.old.pc < 2 ^ 63 }
-        requires kind { TouchesNothing instr }
-        requires names { NamesRight code.now self.old.unit instr }
-        requires fit { (words : ℕ) × FitsIn words records.now (does code.now instr line) self.old }
-        ensures { EndsOn records.now (does code.now instr line) self.old result self.new }
+        requires kind { TouchesNothing step.now.instr }
+        requires names { NamesRight code.now self.old.unit step.now.instr }
+        requires fit { (words : ℕ) × FitsIn words records.now (does code.now step.now.instr step.now.line) self.old }
+        ensures { EndsOn records.now (does code.now step.now.instr step.now.line) self.old result self.new }
     {
-        match instr {
+        match step.instr {
             Instr::Const(number) => self.push_number(number),
             Instr::Local(k) => self.push_slot(k),
             Instr::Setlocal(k) => self.pop_slot(k),
-            Instr::Index(var) => self.index(code, var, line),
+            Instr::Index(var) => self.index(code, var, step.line),
             Instr::Jump(by) => self.jump(by),
             Instr::Jumpz(by) => self.jump_on_zero(by),
             Instr::Dotest(by) => self.test_loop(by),
-            Instr::Doadd => self.raise(line),
+            Instr::Doadd => self.raise(step.line),
+            Instr::Add => self.add(step.line),
             Instr::Join => StepEnd::Joined,
-            _ => self.operate(code, records, instr, line),
+            _ => self.operate(code, records, step),
         }
     }
 

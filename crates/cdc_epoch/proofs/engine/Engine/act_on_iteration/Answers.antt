@@ -1,4 +1,4 @@
-use Rattle.std.proofs.Common.{sym, subst, Some, refl, ap}
+use Rattle.std.proofs.Common.{sym, subst, refl}
 use Rattle.cdc_task.specs.declared.end.StepEnd.TheVariants.{Went, Printed, Faulted}
 use Rattle.cdc_machine.specs.declared.effect.Effect.TheVariants as effect
 use Rattle.cdc_epoch.proofs.Acts.{EndsHand}
@@ -33,7 +33,7 @@ returns-in-Faulted g c = λ m at can held.
     let f = c.in-Faulted in
     let shown = iteration_shows g.F.Fabric old m can.ties c.args.p c.args.i at held c.requires.doall.0 c.requires.doall.1 (Faulted f.kind f.line) c.index_mut-lane.result.now c.step_on.new.task c.step_on.new.side c.index_mut-lane.ensures.value f.ensures.step in
     let ends : EndsHand c.args.p old.roster c.end.new.self = record { count = c.end.ensures.count; taken = c.end.ensures.taken; held = c.end.ensures.held } in
-    iteration_faults g.F.Fabric old m can.ties c.args.p c.args.i at held c.requires.doall.0 c.requires.doall.1 c.step_on.new.task effect.Stepped _ refl refl f.ensures.stays (record { kind = f.kind; line = f.line }) shown.0 shown.1 refl ends (ap Some c.lesser.ensures) refl
+    iteration_faults g.F.Fabric old m can.ties c.args.p c.args.i at held c.requires.doall.0 c.requires.doall.1 c.step_on.new.task effect.Stepped _ refl refl f.ensures.stays (record { kind = f.kind; line = f.line }) shown.0 shown.1 refl ends c.note_fault.ensures refl
 
 pub returns-in-Forked : goal.returns-in-Forked
 returns-in-Forked g c = λ m at can held.

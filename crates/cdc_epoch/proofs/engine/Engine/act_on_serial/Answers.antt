@@ -1,4 +1,4 @@
-use Rattle.std.proofs.Common.{refl, sym, subst, ap₂, ℤ, w64, SFits, rules}
+use Rattle.std.proofs.Common.{refl, sym, subst, ◌∙◌, ap₂, ℤ, w64, SFits, rules}
 use Rattle.std.proofs.lemmas.Int.{to_z-of_z}
 use Rattle.cdc_task.specs.declared.end.StepEnd.TheVariants.{Went, Printed, Forked, Faulted}
 use Rattle.cdc_machine.specs.declared.effect.Effect.TheVariants as effect
@@ -33,7 +33,7 @@ returns-in-Forked g c = λ m at can held.
     let by : SFits w64 f.by = search rules in
     let ends : EndsHand c.args.p c.args.self.now.roster c.end.new.self = record { count = c.end.ensures.count; taken = c.end.ensures.taken; held = c.end.ensures.held } in
     serial_forks g.F.Fabric c.args.self.now m can.ties c.args.p at held c.requires.serial effect.Stepped _ refl refl f.ensures.stays (record { number = f.number; count = f.count; from = f.from; by = f.by }) shown.0 shown.1 shown.2 refl ends
-    (ap₂ (λ (a b : ℤ). epoch.Forked (record { number = f.number; count = f.count; from = a; by = b })) (to_z-of_z w64 f.from from) (to_z-of_z w64 f.by by)) refl
+    (c.become_forked.ensures ∙ ap₂ (λ (a b : ℤ). epoch.Forked (record { number = f.number; count = f.count; from = a; by = b })) (to_z-of_z w64 f.from from) (to_z-of_z w64 f.by by)) refl
 
 pub returns-in-Joined : goal.returns-in-Joined
 returns-in-Joined g c = λ m at can held.
