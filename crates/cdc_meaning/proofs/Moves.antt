@@ -1,5 +1,5 @@
 -- From parts of a statement to the statement.
-use Rattle.std.proofs.Common.{◌≡◌, ℕ, ◌+◌, ℤ, List, [], ◌∷◌, length, Ok, Err, refl, sym, subst}
+use Rattle.std.proofs.Common.{◌≡◌, ℕ, ◌+◌, ℤ, List, [], ◌∷◌, length, Ok, Err, refl, sym, subst, arith}
 use Rattle.cdc_prog.specs.declared.expr.Ref.{Ref}
 use Rattle.cdc_prog.specs.declared.expr.Expr.{Expr}
 use Rattle.cdc_prog.specs.declared.expr.BinOp.TheVariants.{Add}
@@ -8,7 +8,8 @@ use Rattle.cdc_prog.specs.Value.{binary}
 use Rattle.cdc_prog.specs.Data.{Store, Binding, base_of, dims_of}
 use Rattle.cdc_prog.specs.Input.{Input}
 use Rattle.cdc_prog.specs.Process.{Process, or_fail}
-use Rattle.cdc_prog.specs.Expressions.{Surroundings, InWord, scalar, fetch, keep}
+use Rattle.cdc_prog.specs.Expressions as process
+use Rattle.cdc_prog.specs.Expressions.{Surroundings, InWord, scalar, scalar_of, fetch, keep}
 use Rattle.cdc_prog.specs.Statements.{raise}
 use Rattle.cdc_prog.specs.Resolved.{TargetFits}
 use Rattle.cdc_prog.specs.Translation.{expr_of, exprs_of, target_of}
@@ -46,6 +47,13 @@ module _ (b : Binding) (line : ℕ) (slots : List ℤ) (s : Store) where
       go : (l : List Expr) → (length l ≡ 0 → ⊥) → Numbers b line (dims_of b t.at.var) (exprs_of l) slots s (Ok n) → Locates b line (record { at = t.at; subs = exprs_of l }) slots s (Ok (Word (base_of b t.at.var + n)))
       go [] some h = absurd (some refl)
       go (e ∷ es) some h = λ left rest. h left (λ m. rest (InWord b.path t.at.site (base_of b t.at.var + m)))
+
+  pub target_scalar : (t : Target) (l : List Expr) (cell : Cell) → l ≡ t.subs → length l ≡ 0 → ((site : ℕ) → reached b.path site cell ≡ scalar_of b site t.at.var) → Locates b line (target_of t) slots s (Ok cell)
+  target_scalar t l cell same none is = subst (λ (k : List Expr). Locates b line (record { at = t.at; subs = exprs_of k }) slots s (Ok cell)) same (go l none)
+    where
+      go : (l : List Expr) → length l ≡ 0 → Locates b line (record { at = t.at; subs = exprs_of l }) slots s (Ok cell)
+      go [] none = λ left rest. subst (λ (c : process.Cell). Same (rest c) s (rest (reached b.path t.at.site cell)) s) (is t.at.site) (record { output = refl; ends = refl })
+      go (e ∷ es) none = absurd (omega (arith, none))
 
 pub raised : (b : Binding) (line : ℕ) (again bump : Ref) (by x y : ℤ) (slots after : List ℤ) (s t : Store) (left : Input) (rest : Surroundings → Process) (p q : Cell) →
     reached b.path again.site p ≡ scalar b again → ((k : ℤ → Process) → Same (fetch (reached b.path again.site p) (around slots left) k) s (k x) s) → binary Add x by ≡ Ok y →

@@ -23,15 +23,11 @@ element_needs f slots e at subs l is same h =
     element_fits f slots at (exprs_of l) (subst (ExprFits f.program.now.objects (shapes_of f) slots) (is_element e at subs l is same) h)
 
 module _ (b : Binding) (line : ℕ) (slots : List ℤ) (s : Store) where
-  pub element_fault : (e : Expr) (at : Ref) (subs l : List Expr) (f : Fault) → e ≡ Element at subs → l ≡ subs → Numbers b line (dims_of b at.var) (exprs_of l) slots s (Err f) → Values b line (expr_of e) slots s (Err f)
-  element_fault e at subs l f is same h =
-      subst (λ t. Values b line t slots s (Err f)) (sym (is_element e at subs l is same))
-      (λ left rest. let k = h left (λ n. Load b.path at.site (base_of b at.var + n) rest) in record { output = k.output; ends = k.ends })
+  pub element_fault : (at : Ref) (l : List Expr) (f : Fault) → Numbers b line (dims_of b at.var) (exprs_of l) slots s (Err f) → Values b line (plain.Element at (exprs_of l)) slots s (Err f)
+  element_fault at l f h = λ left rest. let k = h left (λ n. Load b.path at.site (base_of b at.var + n) rest) in record { output = k.output; ends = k.ends }
 
-  pub element_value : (e : Expr) (at : Ref) (subs l : List Expr) (n w : ℕ) (v : ℤ) → e ≡ Element at subs → l ≡ subs → Numbers b line (dims_of b at.var) (exprs_of l) slots s (Ok n) → w ≡ base_of b at.var + n → v ≡ s w → Values b line (expr_of e) slots s (Ok v)
-  element_value e at subs l n w v is same h word value =
-      subst (λ t. Values b line t slots s (Ok v)) (sym (is_element e at subs l is same))
-      (λ left rest.
+  pub element_value : (at : Ref) (l : List Expr) (n w : ℕ) (v : ℤ) → Numbers b line (dims_of b at.var) (exprs_of l) slots s (Ok n) → w ≡ base_of b at.var + n → v ≡ s w → Values b line (plain.Element at (exprs_of l)) slots s (Ok v)
+  element_value at l n w v h word value = λ left rest.
       let k = h left (λ m. Load b.path at.site (base_of b at.var + m) rest) in
       let found : s (base_of b at.var + n) ≡ v = sym (value ∙ ap s word) in
-      record { output = k.output ∙ ap (λ x. output (rest x) s) found; ends = k.ends ∙ ap (λ x. ends (rest x) s) found })
+      record { output = k.output ∙ ap (λ x. output (rest x) s) found; ends = k.ends ∙ ap (λ x. ends (rest x) s) found }

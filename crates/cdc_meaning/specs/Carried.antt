@@ -11,6 +11,8 @@ use Rattle.cdc_prog.specs.Lines.{opened}
 use Rattle.cdc_prog.specs.Meaning.{Meaning}
 use Rattle.cdc_prog.specs.Output as sink
 use Rattle.cdc_prog.specs.Output.{meaning_of}
+use Rattle.cdc_prog.specs.declared.stmt.Stmt as code
+use Rattle.cdc_prog.specs.declared.stmt.Stmt.TheVariants.{Assign}
 use Rattle.cdc_prog.specs.declared.stop.Stop.{Stop}
 use Rattle.cdc_prog.specs.declared.stop.Stop.TheVariants.{Faulted, Sink}
 use Rattle.cdc_prog.specs.Held.{store_of, around}
@@ -67,6 +69,11 @@ Carried texts runs x result y = (rest : Surroundings → Process) → Comes text
 -- so do statements, in a frame
 abbrev pub DoesStmt : Frame → Stmt → State → Result (Unit {0}) Stop → State → Type 0
 DoesStmt f s x result y = (calls : Calls) → Carried f.program.now.texts (stmt calls (binding f) s) x result y
+
+-- a statement that is no assignment
+abbrev pub IsOther : code.Stmt → Type 0
+IsOther (Assign line target value) = ⊥
+IsOther _ = Unit {0}
 
 -- what prints alone comes to what follows, whatever the store and the surroundings are
 abbrev pub Says : (texts : List (List ℕ)) → (Process → Process) → Output → Result (Unit {0}) Stop → Output → Type 0

@@ -1,16 +1,16 @@
 // Statements.
 ghost use Rattle.std.specs.Prelude.{◌≡◌, ◌<◌, length};
 ghost use Rattle.cdc_prog.specs.Bodies.{HasOnly};
-ghost use Rattle.cdc_prog.specs.Resolved.{IsScalar, StmtFits};
-ghost use Rattle.cdc_meaning.specs.Loops.{DoesTurns};
+ghost use Rattle.cdc_prog.specs.Resolved.{StmtFits};
+ghost use Rattle.cdc_meaning.specs.Loops.{HasCell, DoesTurns};
 ghost use Rattle.cdc_meaning.specs.Doall.{DoesFork, SlotsWithin};
 ghost use Rattle.cdc_prog.specs.Trips.{HasIndexes};
 ghost use Rattle.cdc_prog.specs.Translation.{stmt_of, stmts_of, program_of};
 ghost use Rattle.cdc_meaning.specs.Frames.{shapes_of, IsPlaced};
-ghost use Rattle.cdc_meaning.specs.Carried.{state_of, states_of, DoesStmt};
+ghost use Rattle.cdc_meaning.specs.Carried.{state_of, states_of, DoesStmt, IsOther};
 
 use crate::doall::{Fork, begin_doall, begin_iteration};
-use crate::expr::value;
+use crate::expr::computed;
 use crate::frame::Frame;
 use crate::print::{Page, print};
 use crate::read::read;
@@ -26,11 +26,13 @@ pub struct Streams<'a> {
 }
 
 /// Carries out a statement that has no CALL. A DOALL takes the slots of its iterations in `lane`, one iteration after another.
+/// An assignment is carried out in place.
 ///
 /// # Errors
 ///
 /// The first fault; a failure of the sink.
 #[cycle(exec)]
+#[inline(always)]
 pub fn exec<K: Sink>(
     frame: &Frame,
     words: &mut [i64],
@@ -57,9 +59,35 @@ pub fn exec<K: Sink>(
             assign(frame, words, slots, *line, target, value)?;
             Ok(())
         }
+        _ => exec_other(frame, words, slots, lane, streams, out, statement),
+    }
+}
+
+// Carries out a statement that is no assignment.
+#[cycle(exec)]
+#[inline(never)]
+fn exec_other<K: Sink>(
+    frame: &Frame,
+    words: &mut [i64],
+    slots: &mut [i64],
+    lane: &mut [i64],
+    streams: &mut Streams,
+    out: &mut K,
+    statement: &Stmt,
+) -> Result<(), Stop>
+    requires placed { IsPlaced frame.now }
+    requires room { length words.old ≡ frame.now.program.now.words }
+    requires fits { StmtFits (program_of frame.now.program.now) (λ u. 0) 0 (shapes_of frame.now) (length slots.old) (stmt_of statement.now) }
+    requires calls { HasOnly (Unit {0}) (Unit {0}) ⊥ (stmt_of statement.now) }
+    requires lane { SlotsWithin (length lane.old) (stmt_of statement.now) }
+    requires other { IsOther statement.now }
+    ensures { DoesStmt frame.now (stmt_of statement.now) (state_of words.old slots.old streams.old (K.taken out.old) (K.faults out.old))
+        result (state_of words.new slots.new streams.new (K.taken out.new) (K.faults out.new)) }
+{
+    match statement {
         Stmt::If { arms, other } => {
             for arm in arms.as_slice() {
-                let holds = value(frame, words, slots, arm.line, &arm.cond)?;
+                let holds = computed(frame, words, slots, arm.line, &arm.cond)?;
                 if holds != 0 {
                     return exec_all(frame, words, slots, lane, streams, out, arm.body.as_slice());
                 }
@@ -124,7 +152,7 @@ pub fn exec<K: Sink>(
                 fork,
             )
         }
-        Stmt::Call { .. } => unreachable!(),
+        Stmt::Assign { .. } | Stmt::Call { .. } => unreachable!(),
     }
 }
 
@@ -134,6 +162,7 @@ pub fn exec<K: Sink>(
 ///
 /// The first fault; a failure of the sink.
 #[cycle(exec)]
+#[inline(always)]
 pub fn exec_all<K: Sink>(
     frame: &Frame,
     words: &mut [i64],
@@ -159,6 +188,7 @@ pub fn exec_all<K: Sink>(
 
 // Carries out the turns of a DO loop.
 #[cycle(exec)]
+#[inline(never)]
 fn repeat<K: Sink>(
     frame: &Frame,
     words: &mut [i64],
@@ -174,8 +204,7 @@ fn repeat<K: Sink>(
     requires fits { StmtFits (program_of frame.now.program.now) (λ u. 0) 0 (shapes_of frame.now) (length slots.old) (stmts_of body.now) }
     requires calls { HasOnly (Unit {0}) (Unit {0}) ⊥ (stmts_of body.now) }
     requires lane { SlotsWithin (length lane.old) (stmts_of body.now) }
-    requires again { IsScalar frame.now.program.now.objects (shapes_of frame.now) (length slots.old) turns.again.var }
-    requires bump { IsScalar frame.now.program.now.objects (shapes_of frame.now) (length slots.old) turns.bump.var }
+    requires cell { HasCell frame.now (length slots.old) turns }
     ensures { DoesTurns frame.now turns (stmts_of body.now) (state_of words.old slots.old streams.old (K.taken out.old) (K.faults out.old))
         result (state_of words.new slots.new streams.new (K.taken out.new) (K.faults out.new)) }
 {

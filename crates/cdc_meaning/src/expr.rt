@@ -2,6 +2,7 @@
 ghost use Rattle.std.specs.Prelude.{◌≡◌, ◌<◌, length, IfOk, IfSome};
 ghost use Rattle.cdc_prog.specs.Data.{size_of, dims_of};
 ghost use Rattle.cdc_prog.specs.Held.{store_of};
+ghost use Rattle.cdc_prog.specs.Plain.{Element};
 ghost use Rattle.cdc_prog.specs.Resolved.{ExprFits, TargetFits};
 ghost use Rattle.cdc_prog.specs.Translation.{expr_of, exprs_of, target_of};
 ghost use Rattle.cdc_meaning.specs.Frames.{shapes_of, binding, IsPlaced, IsElement};
@@ -11,9 +12,9 @@ ghost use Rattle.cdc_meaning.specs.Evaluates.{IsAt, Notes, Gives, GivesNumber, V
 use crate::cell::{Cell, fetch, scalar};
 use crate::folded::Folded;
 use crate::frame::Frame;
-use cdc_prog::{Expr, Fault, FaultKind, Target, Var, binary, unary};
+use cdc_prog::{Expr, Fault, FaultKind, Ref, Target, Var, binary, unary};
 
-/// The value of an expression (ISO/IEC 1539:1991, section 7).
+/// The value of an expression (ISO/IEC 1539:1991, section 7); a number and a scalar are read in place.
 ///
 /// # Errors
 ///
@@ -26,10 +27,44 @@ pub fn value(frame: &Frame, words: &[i64], slots: &[i64], line: u32, e: &Expr) -
     ensures { Values (binding frame.now) line (expr_of e.now) slots.now (store_of words.now) result }
 {
     let mut kind = FaultKind::Overflow;
+    match operand(frame, words, slots, e, &mut kind) {
+        Some(value) => Ok(value),
+        None => Err(fault(kind, line)),
+    }
+}
+
+/// The same value, for expressions that mostly have operators.
+///
+/// # Errors
+///
+/// The first fault, at the line.
+#[inline(always)]
+pub fn computed(
+    frame: &Frame,
+    words: &[i64],
+    slots: &[i64],
+    line: u32,
+    e: &Expr,
+) -> Result<i64, Fault>
+    requires placed { IsPlaced frame.now }
+    requires room { length words.now ≡ frame.now.program.now.words }
+    requires fits { ExprFits frame.now.program.now.objects (shapes_of frame.now) (length slots.now) (expr_of e.now) }
+    ensures { Values (binding frame.now) line (expr_of e.now) slots.now (store_of words.now) result }
+{
+    let mut kind = FaultKind::Overflow;
     match evaluate(frame, words, slots, e, &mut kind) {
         Some(value) => Ok(value),
-        None => Err(Fault { kind, line }),
+        None => Err(fault(kind, line)),
     }
+}
+
+// A fault, which is made apart, so that what is no fault stays in registers.
+#[cold]
+#[inline(never)]
+fn fault(kind: FaultKind, line: u32) -> Fault
+    ensures { result ≡ record { kind = kind; line = line } }
+{
+    Fault { kind, line }
 }
 
 // The value of an expression, which stays in registers; where it faults there is none, and the kind of the fault is kept.
@@ -49,10 +84,7 @@ fn evaluate(
     match e {
         Expr::Number(n) => Some(*n),
         Expr::Scalar(at) => Some(fetch(words, slots, scalar(frame, slots, at.var))),
-        Expr::Element(at, subs) => {
-            let n = number(frame, words, slots, at.var, subs.as_slice(), kind)?;
-            Some(words[frame.word(at.var, n) as usize])
-        }
+        Expr::Element(at, subs) => element(frame, words, slots, *at, subs.as_slice(), kind),
         Expr::Un(op, a) => {
             let x = operand(frame, words, slots, a, kind)?;
             noted(unary(*op, x), kind)
@@ -65,7 +97,7 @@ fn evaluate(
     }
 }
 
-// The value of an operand; a number and a scalar are read in place.
+// The value of an operand; a number and a scalar are read in place, an element by the shortest way.
 #[cycle(evaluate)]
 #[inline(always)]
 fn operand(
@@ -83,8 +115,29 @@ fn operand(
     match e {
         Expr::Number(n) => Some(*n),
         Expr::Scalar(at) => Some(fetch(words, slots, scalar(frame, slots, at.var))),
+        Expr::Element(at, subs) => element(frame, words, slots, *at, subs.as_slice(), kind),
         _ => evaluate(frame, words, slots, e, kind),
     }
+}
+
+// The value of an array element.
+#[cycle(evaluate)]
+#[inline(never)]
+fn element(
+    frame: &Frame,
+    words: &[i64],
+    slots: &[i64],
+    at: Ref,
+    subs: &[Expr],
+    kind: &mut FaultKind,
+) -> Option<i64>
+    requires placed { IsPlaced frame.now }
+    requires room { length words.now ≡ frame.now.program.now.words }
+    requires element { IsElement frame.now (length slots.now) at.var (exprs_of subs.now) }
+    ensures { Gives (binding frame.now) (Element at (exprs_of subs.now)) slots.now (store_of words.now) result kind.new }
+{
+    let n = number(frame, words, slots, at.var, subs, kind)?;
+    Some(words[frame.word(at.var, n) as usize])
 }
 
 // What was got; the kind of a fault is kept.
@@ -107,13 +160,14 @@ pub fn at_line<T>(answer: Result<T, FaultKind>, line: u32) -> Result<T, Fault>
 {
     match answer {
         Ok(value) => Ok(value),
-        Err(kind) => Err(Fault { kind, line }),
+        Err(kind) => Err(fault(kind, line)),
     }
 }
 
 // The number of an array element, from 0: all subscripts are evaluated in order, and then the
 // bounds are tested (ISO/IEC 1539:1991, section 6.2.2); none where one of these faults.
 #[cycle(evaluate)]
+#[inline(always)]
 fn number(
     frame: &Frame,
     words: &[i64],
@@ -174,6 +228,6 @@ pub fn located(
     let mut kind = FaultKind::Overflow;
     match number(frame, words, slots, var, subs, &mut kind) {
         Some(n) => Ok(Cell::Word(frame.word(var, n))),
-        None => Err(Fault { kind, line }),
+        None => Err(fault(kind, line)),
     }
 }

@@ -96,16 +96,16 @@ exec-returns-in_err-assign-in-Assign g t c = λ calls rest.
     let is = ap (λ (w : plain.Stmt). stmt calls b w d rest) (ap stmt_of s.is ∙ at_assign s.line s.target s.value) in
     faults texts p q (rest z.around) x x z c.from_residual.result c.in_err-assign-in-Assign.field-0.0 (r.1 ∙ ap Err r.2) (begun texts is) (c.in_err-assign-in-Assign.ensures left rest) refl
 
-pub exec-value-requires-clause-fits : goal.exec-value-requires-clause-fits
-exec-value-requires-clause-fits g t c =
+pub exec_other-computed-requires-clause-fits : goal.exec_other-computed-requires-clause-fits
+exec_other-computed-requires-clause-fits g t c =
     let a = c.args in
     let l = c.loop-arm in
     let is = one_arm c.as_slice-arm-items.result.now (stmts_of c.in-If.other) l.arm-index c.arm-item.result (omega arith) c.arm-item.is in
     (subst (StmtFits (program_of a.frame.now.program.now) (λ u. 0) 0 (shapes_of a.frame.now) (length l.slots)) is l.invariant.fits).0
 
-pub exec-returns-in_err-holds-in-If : goal.exec-returns-in_err-holds-in-If
-exec-returns-in_err-holds-in-If g t c = λ calls rest.
-    let r = err_from_is_err_and c.from_residual-in_err-holds-in-If.result c.from_residual-in_err-holds-in-If.ensures.1 in
+pub exec_other-returns-in_err-holds-in-If : goal.exec_other-returns-in_err-holds-in-If
+exec_other-returns-in_err-holds-in-If g t c = λ calls rest.
+    let r = err_from_is_err_and c.from_residual.result c.from_residual.ensures.1 in
     let texts = c.args.frame.now.program.now.texts in
     let b = binding c.args.frame.now in
     let a = c.args in
@@ -124,10 +124,10 @@ exec-returns-in_err-holds-in-If g t c = λ calls rest.
     let k = λ (v : ℤ). branch v (stmt calls b (stmts_of arm.body) e rest) (stmt calls b more e rest) in
     let q = expr b arm.line (expr_of arm.cond) e k in
     let here = subst (λ (w : plain.Stmt). Follows texts p x (stmt calls b w e rest) y) is (l.invariant.follows calls rest) in
-    faults texts p q (rest e) x y y c.from_residual-in_err-holds-in-If.result c.in_err-holds-in-If.field-0.0 (r.1 ∙ ap Err r.2) (follows_after texts here (ticked texts)) (c.in_err-holds-in-If.ensures left k) refl
+    faults texts p q (rest e) x y y c.from_residual.result c.in_err-holds-in-If.field-0.0 (r.1 ∙ ap Err r.2) (follows_after texts here (ticked texts)) (c.in_err-holds-in-If.ensures left k) refl
 
-pub exec-returns-then-holds-ne0 : goal.exec-returns-then-holds-ne0
-exec-returns-then-holds-ne0 g t c = λ calls rest.
+pub exec_other-returns-then-holds-ne0 : goal.exec_other-returns-then-holds-ne0
+exec_other-returns-then-holds-ne0 g t c = λ calls rest.
     let texts = c.args.frame.now.program.now.texts in
     let b = binding c.args.frame.now in
     let a = c.args in
@@ -155,8 +155,8 @@ exec-returns-then-holds-ne0 g t c = λ calls rest.
     let chosen = subst (λ (w : Process). Same q (store_of l.words) w (store_of l.words)) (is_taken v taken passed some) (c.in_ok-holds-in-If.ensures left k) in
     comes_after texts p taken (rest z.around) x y z c.exec_all.result (follows_after texts here (same_follows texts chosen refl)) (rw c.as_slice.ensures at (c.exec_all.ensures calls rest))
 
-pub exec-loop-arm-preserved : goal.exec-loop-arm-preserved
-exec-loop-arm-preserved g t c =
+pub exec_other-loop-arm-preserved : goal.exec_other-loop-arm-preserved
+exec_other-loop-arm-preserved g t c =
     let texts = c.args.frame.now.program.now.texts in
     let b = binding c.args.frame.now in
     let a = c.args in
@@ -188,8 +188,8 @@ exec-loop-arm-preserved g t c =
           follows_after texts here (same_follows texts chosen refl);
     }
 
-pub exec-returns-after-loop-arm : goal.exec-returns-after-loop-arm
-exec-returns-after-loop-arm g t c = λ calls rest.
+pub exec_other-returns-after-loop-arm : goal.exec_other-returns-after-loop-arm
+exec_other-returns-after-loop-arm g t c = λ calls rest.
     let texts = c.args.frame.now.program.now.texts in
     let b = binding c.args.frame.now in
     let a = c.args in
@@ -207,8 +207,8 @@ exec-returns-after-loop-arm g t c = λ calls rest.
     (subst (λ (w : plain.Stmt). Follows texts p x (stmt calls b w e rest) y) is (l.invariant.follows calls rest))
     (rw c.as_slice-in-If.ensures at (c.exec_all-in-If.ensures calls rest))
 
-pub exec-returns-in_err-turns-in-Do : goal.exec-returns-in_err-turns-in-Do
-exec-returns-in_err-turns-in-Do g t c = λ calls rest.
+pub exec_other-returns-in_err-turns-in-Do : goal.exec_other-returns-in_err-turns-in-Do
+exec_other-returns-in_err-turns-in-Do g t c = λ calls rest.
     let r = err_from_is_err_and c.from_residual-in_err-turns-in-Do.result c.from_residual-in_err-turns-in-Do.ensures.1 in
     let texts = c.args.frame.now.program.now.texts in
     let b = binding c.args.frame.now in
@@ -226,8 +226,8 @@ exec-returns-in_err-turns-in-Do g t c = λ calls rest.
     let h = c.in_err-turns-in-Do.ensures.begins left body rest in
     faults texts p q (rest z.around) x x z c.from_residual-in_err-turns-in-Do.result c.in_err-turns-in-Do.field-0.0 (r.1 ∙ ap Err r.2) (begun texts is) (record { output = h.output; ends = h.ends }) refl
 
-pub exec-returns-in_ok-turns-in-Do : goal.exec-returns-in_ok-turns-in-Do
-exec-returns-in_ok-turns-in-Do g t c = λ calls rest.
+pub exec_other-returns-in_ok-turns-in-Do : goal.exec_other-returns-in_ok-turns-in-Do
+exec_other-returns-in_ok-turns-in-Do g t c = λ calls rest.
     let texts = c.args.frame.now.program.now.texts in
     let b = binding c.args.frame.now in
     let a = c.args in
@@ -248,22 +248,22 @@ exec-returns-in_ok-turns-in-Do g t c = λ calls rest.
     (follows_after texts (begun texts is) (same_follows texts (c.in_ok-turns-in-Do.ensures.begins left body rest) refl))
     (rw c.as_slice-in-Do.ensures at (c.repeat.ensures calls rest))
 
-pub exec-print-requires-clause-fits : goal.exec-print-requires-clause-fits
-exec-print-requires-clause-fits g t c =
+pub exec_other-print-requires-clause-fits : goal.exec_other-print-requires-clause-fits
+exec_other-print-requires-clause-fits g t c =
     let a = c.args in
     let f = a.frame.now in
     let fits = subst (StmtFits (program_of f.program.now) (λ u. 0) 0 (shapes_of f) (length a.slots.now)) (ap stmt_of c.in-Print.is ∙ at_print c.in-Print.line c.in-Print.items) c.requires.fits in
     rw c.as_slice-in-Print.ensures (each_image (ItemFits f.program.now.objects (shapes_of f) (length a.slots.now) (length f.program.now.texts)) item_of c.in-Print.items fits)
 
-pub exec-read-requires-clause-fits : goal.exec-read-requires-clause-fits
-exec-read-requires-clause-fits g t c =
+pub exec_other-read-requires-clause-fits : goal.exec_other-read-requires-clause-fits
+exec_other-read-requires-clause-fits g t c =
     let a = c.args in
     let f = a.frame.now in
     let fits = subst (StmtFits (program_of f.program.now) (λ u. 0) 0 (shapes_of f) (length a.slots.now)) (ap stmt_of c.in-Read.is ∙ at_read c.in-Read.line c.in-Read.targets) c.requires.fits in
     rw c.as_slice-in-Read.ensures (each_image (TargetFits f.program.now.objects (shapes_of f) (length a.slots.now)) target_of c.in-Read.targets fits)
 
-pub exec-returns-in-Print : goal.exec-returns-in-Print
-exec-returns-in-Print g t c = λ calls rest.
+pub exec_other-returns-in-Print : goal.exec_other-returns-in-Print
+exec_other-returns-in-Print g t c = λ calls rest.
     let texts = c.args.frame.now.program.now.texts in
     let b = binding c.args.frame.now in
     let a = c.args in
@@ -347,8 +347,8 @@ repeat-returns g t c = λ calls rest.
     let p = turns a.turns.count body raised x.around rest in
     no_turn texts a.turns.count l.counter body raised rest p x y (omega arith) (l.invariant calls rest)
 
-pub exec-returns-in_ok-fork-in-Doall : goal.exec-returns-in_ok-fork-in-Doall
-exec-returns-in_ok-fork-in-Doall g t c = λ calls rest.
+pub exec_other-returns-in_ok-fork-in-Doall : goal.exec_other-returns-in_ok-fork-in-Doall
+exec_other-returns-in_ok-fork-in-Doall g t c = λ calls rest.
     let texts = c.args.frame.now.program.now.texts in
     let b = binding c.args.frame.now in
     let a = c.args in

@@ -30,8 +30,8 @@ invariant-repeat-loop g l =
     (turns_left l.turns.count (binding l.frame) l.turns (stmt calls (binding l.frame) (stmts_of l.body)) (around l.initial.slots (left_of l.initial.streams.unread)) rest) (state l.initial.words l.initial.slots (left_of l.initial.streams.unread) (output_of (g.K.Sink.taken l.initial.out) l.initial.streams.page (g.K.Sink.faults l.initial.out)))
     (turns_left (l.turns.count - l.counter) (binding l.frame) l.turns (stmt calls (binding l.frame) (stmts_of l.body)) (around l.slots (left_of l.streams.unread)) rest) (state l.words l.slots (left_of l.streams.unread) (output_of (g.K.Sink.taken l.out) l.streams.page (g.K.Sink.faults l.out)))
 
-abbrev pub invariant-exec-loop-arm : goal.invariant-exec-loop-arm
-invariant-exec-loop-arm g l = record {
+abbrev pub invariant-exec_other-loop-arm : goal.invariant-exec_other-loop-arm
+invariant-exec_other-loop-arm g l = record {
   fits : StmtFits (program_of l.frame.program.now) (λ u. 0) 0 (shapes_of l.frame) (length l.slots) (arms_of (drop l.arm-index l.arm-items) (stmts_of l.other));
   calls : HasOnly (Unit {0}) (Unit {0}) ⊥ (arms_of (drop l.arm-index l.arm-items) (stmts_of l.other));
   lane : SlotsWithin (length l.lane) (arms_of (drop l.arm-index l.arm-items) (stmts_of l.other));

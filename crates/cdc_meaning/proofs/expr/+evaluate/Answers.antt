@@ -7,6 +7,7 @@ use Rattle.cdc_prog.specs.declared.expr.Expr.{the_lemmas}
 use Rattle.cdc_prog.specs.declared.program.Dim.{Dim}
 use Rattle.cdc_prog.specs.declared.program.FaultKind.TheVariants.{Subscript}
 use Rattle.cdc_prog.specs.Data.{size_of, dims_of}
+use Rattle.cdc_prog.specs.Plain.{Element}
 use Rattle.cdc_prog.specs.Resolved.{ExprFits}
 use Rattle.cdc_prog.specs.Translation.{expr_of, exprs_of}
 use Rattle.cdc_prog.specs.Held.{store_of}
@@ -17,26 +18,25 @@ use Rattle.cdc_meaning.proofs.Values.{element_needs, element_fault, element_valu
 use Rattle.cdc_meaning.proofs.Subscripts.{Strides, dim_at, stride_extent, below_all, leads_first, leads_next, leads_to_fault, leads_to_number, leads_outside}
 use Rattle.cdc_meaning.proofs.expr.+evaluate.Goals as goal
 
-pub evaluate-number-requires : goal.evaluate-number-requires
-evaluate-number-requires t c =
+pub evaluate-element-requires : goal.evaluate-element-requires
+evaluate-element-requires t c =
     let d = c.in-Element in
     (search (rules, the_lemmas), (c.requires.placed, (c.requires.room, element_needs c.args.frame.now _ c.args.e.now d.at d.subs c.as_slice.result.now d.is c.as_slice.ensures c.requires.fits)))
 
-pub evaluate-word-requires-clause-known : goal.evaluate-word-requires-clause-known
-evaluate-word-requires-clause-known t c =
+pub operand-element-requires : goal.operand-element-requires
+operand-element-requires t c =
     let d = c.in-Element in
-    (element_needs c.args.frame.now _ c.args.e.now d.at d.subs c.as_slice.result.now d.is c.as_slice.ensures c.requires.fits).known
+    (search (rules, the_lemmas), (c.requires.placed, (c.requires.room, element_needs c.args.frame.now _ c.args.e.now d.at d.subs c.as_slice.result.now d.is c.as_slice.ensures c.requires.fits)))
 
-pub evaluate-returns-in_ok-n-in-Element : goal.evaluate-returns-in_ok-n-in-Element
-evaluate-returns-in_ok-n-in-Element t c = λ line.
-    let d = c.in-Element in
-    element_value (binding c.args.frame.now) line c.args.slots.now (store_of c.args.words.now) c.args.e.now d.at d.subs c.as_slice.result.now c.in_ok-n-in-Element.n c.word.result _ d.is c.as_slice.ensures (c.in_ok-n-in-Element.ensures.number line) c.word.ensures.value (grind (arith, ints, to_z-of_z))
+pub element-returns : goal.element-returns
+element-returns t c = λ line.
+    element_value (binding c.args.frame.now) line c.args.slots.now (store_of c.args.words.now) c.args.at c.args.subs.now c.in_ok-n.n c.word.result _ (c.in_ok-n.ensures.number line) c.word.ensures.value (grind (arith, ints, to_z-of_z))
 
-pub evaluate-returns-in_err-n-in-Element : goal.evaluate-returns-in_err-n-in-Element
-evaluate-returns-in_err-n-in-Element t c =
-    let d = c.in-Element in
-    subst (λ o. Gives (binding c.args.frame.now) (expr_of c.args.e.now) c.args.slots.now (store_of c.args.words.now) o c.number.new.kind) (sym c.from_residual.ensures)
-    (λ line. element_fault (binding c.args.frame.now) line c.args.slots.now (store_of c.args.words.now) c.args.e.now d.at d.subs c.as_slice.result.now _ d.is c.as_slice.ensures (c.in_err-n-in-Element.ensures.number line))
+pub element-returns-in_err-n : goal.element-returns-in_err-n
+element-returns-in_err-n t c =
+    let a = c.args in
+    subst (λ o. Gives (binding a.frame.now) (Element a.at (exprs_of a.subs.now)) a.slots.now (store_of a.words.now) o c.number.new.kind) (sym c.from_residual.ensures)
+    (λ line. element_fault (binding a.frame.now) line a.slots.now (store_of a.words.now) a.at a.subs.now _ (c.in_err-n.ensures.number line))
 
 pub number-loop-k-init : goal.number-loop-k-init
 number-loop-k-init t c =

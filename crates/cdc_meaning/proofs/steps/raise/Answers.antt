@@ -16,5 +16,11 @@ returns c =
     let f : SFits w64 c.in_ok-y.y = search rules in
     λ left rest.
     let kept = simp to_z-of_z at (c.keep.ensures [] a.turns.bump.site left rest) in
-    raised (binding a.frame.now) a.turns.line a.turns.again a.turns.bump a.turns.by c.fetch-x.result c.in_ok-y.y a.slots.now c.keep.new.slots (store_of a.words.now) (store_of c.keep.new.words) left rest c.scalar.result c.scalar-2.result
-    (c.scalar.ensures.cell a.turns.again.site) (c.fetch-x.ensures [] a.turns.again.site left) sum (c.scalar-2.ensures.cell a.turns.bump.site) kept
+    raised (binding a.frame.now) a.turns.line a.turns.again a.turns.bump a.turns.by c.fetch-x.result c.in_ok-y.y a.slots.now c.keep.new.slots (store_of a.words.now) (store_of c.keep.new.words) left rest a.turns.cell a.turns.cell
+    (c.requires.cell.again a.turns.again.site) (c.fetch-x.ensures [] a.turns.again.site left) sum (c.requires.cell.bump a.turns.bump.site) kept
+
+pub returns-in_err-y : goal.returns-in_err-y
+returns-in_err-y c =
+    let again = c.requires.cell.again in
+    let within = c.requires.cell.within in
+    search rules
