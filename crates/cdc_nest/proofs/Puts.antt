@@ -7,15 +7,27 @@ use Rattle.cdc_tree.specs.declared.unit.Node as n
 use Rattle.cdc_tree.specs.declared.unit.Branch.{Branch}
 use Rattle.cdc_tree.specs.Forms.{PStatement, statement}
 use Rattle.cdc_tree.specs.Units.{PNode, PBody, More, BMore, NElse, body_of, branches_of, node, body, branch}
-use Rattle.cdc_nest.specs.Nesting.{PInside, Top, put, put_branch, is_empty, declare}
+use Rattle.cdc_nest.specs.declared.inside.Frame.{Frame}
+use Rattle.cdc_nest.specs.declared.inside.Frame as c
+use Rattle.cdc_nest.specs.Nesting.{PInside, Top, put, put_branch, add, around, is_empty, declare}
 use Rattle.cdc_tree.proofs.Options.{some}
 
 body_of_put : (ns : List PNode) (n : PNode) → body_of (ns ++ (n ∷ [])) ≡ put (body_of ns) n
 body_of_put [] n = refl
 body_of_put (m ∷ ns) n = ap (More m) (body_of_put ns n)
 
-pub body_put : (before now : List Node) (n : Node) → now ≡ before ++ (n ∷ []) → body now ≡ put (body before) (node n)
+body_put : (before now : List Node) (n : Node) → now ≡ before ++ (n ∷ []) → body now ≡ put (body before) (node n)
 body_put before now n e = ap body e ∙ ap body_of (map-append node before (n ∷ [])) ∙ body_of_put (map node before) (node n)
+
+add_within : (f : Frame) (b : PBody) (m : PNode) → add (around f b) m ≡ around f (put b m)
+add_within (c.Unit _ _ _) b m = refl
+add_within (c.If' _ _ _ _ _) b m = refl
+add_within (c.Else' _ _ _ _ _) b m = refl
+add_within (c.Loop' _ _ _ _) b m = refl
+
+-- a node more in the body, whatever stands around it
+pub node_put : (f : Frame) (before now : List Node) (n : Node) → now ≡ before ++ (n ∷ []) → add (around f (body before)) (node n) ≡ around f (body now)
+node_put f before now n e = add_within f (body before) (node n) ∙ ap (around f) (sym (body_put before now n e))
 
 branches_of_put : (bs : List (PStatement × PBody)) (b : PStatement × PBody) → branches_of (bs ++ (b ∷ [])) ≡ put_branch (branches_of bs) b.0 b.1
 branches_of_put [] b = refl

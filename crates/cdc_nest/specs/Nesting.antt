@@ -3,7 +3,8 @@ use Rattle.std.specs.Prelude.{◌≡◌, ℕ, ◌<◌, ◌≤◌, nat_le, Bool, 
 use Rattle.cdc_nest.specs.declared.role.Role.{Role}
 use Rattle.cdc_nest.specs.declared.role.Role.TheVariants as r
 use Rattle.cdc_nest.specs.declared.inside.Inside.{Inside}
-use Rattle.cdc_nest.specs.declared.inside.Inside as c
+use Rattle.cdc_nest.specs.declared.inside.Frame.{Frame}
+use Rattle.cdc_nest.specs.declared.inside.Frame as c
 use Rattle.cdc_nest.specs.declared.inside.Unfit.{Unfit}
 use Rattle.cdc_nest.specs.declared.inside.Unfit.TheVariants.{Misfit, Memory}
 use Rattle.cdc_nest.specs.declared.blocks.Blocks.{Blocks}
@@ -32,11 +33,15 @@ pub data POpen : Type 0 where
   Between : List PUnit → POpen
   Within : List PUnit → PInside → POpen
 
+-- a body with what stands around it
+abbrev pub around : Frame → PBody → PInside
+around (c.Unit head none declarations) b = Top (statement head) (option_map statement none) (map statement declarations.items) b
+around (c.If' p outer before branches head) b = InIf (around outer (body before.items)) (branches_of (map branch branches.items)) (statement head) b
+around (c.Else' p outer before branches head) b = InElse (around outer (body before.items)) (branches_of (map branch branches.items)) (statement head) b
+around (c.Loop' p outer before head) b = InLoop (around outer (body before.items)) (statement head) b
+
 abbrev pub inside : Inside → PInside
-inside (c.Unit head none declarations nodes) = Top (statement head) (option_map statement none) (map statement declarations.items) (body nodes.items)
-inside (c.If' p outer branches head nodes) = InIf (inside outer) (branches_of (map branch branches.items)) (statement head) (body nodes.items)
-inside (c.Else' p outer branches head nodes) = InElse (inside outer) (branches_of (map branch branches.items)) (statement head) (body nodes.items)
-inside (c.Loop' p outer head nodes) = InLoop (inside outer) (statement head) (body nodes.items)
+inside i = around i.frame (body i.nodes.items)
 
 abbrev pub within : List PUnit → Option Inside → POpen
 within us None = Between us

@@ -21,7 +21,7 @@ pub struct Open {
 }
 
 /// How many blocks are open, or the line of the first statement that opened a 65th.
-#[derive(Clone, Copy, Debug, PartialEq, Eq)]
+#[derive(Clone, Copy)]
 pub enum Blocks {
     Open(u32),
     Over(u32),

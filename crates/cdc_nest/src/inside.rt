@@ -1,7 +1,6 @@
 //! A unit that is being read: its parts so far and its open blocks.
 
 ghost use Rattle.std.specs.Prelude.{◌≡◌, Some, map, option_map, []};
-ghost use Rattle.cdc_nest.specs.declared.inside.Unfit.TheVariants.{Misfit};
 ghost use Rattle.cdc_tree.specs.Units.{node, body, branch, branches_of, unit, NIf, NElse, BNone, Empty};
 ghost use Rattle.cdc_tree.specs.Forms as f;
 ghost use Rattle.cdc_nest.specs.Nesting as n;
@@ -11,37 +10,44 @@ use cdc_base::List;
 use cdc_tree::{Branch, Node, Statement, UnitText};
 use std::alloc::{AllocError, AllocFailed, Global};
 
-/// What is open inside a unit, the innermost block outside, each with its parts so far.
+/// What stands around a body: the head of its unit or block with the parts before the body. Around a
+/// block stand the block that holds it and the nodes before it there.
 #[derive(Drop)]
-pub enum Inside {
+pub enum Frame {
     Unit {
         head: Statement,
         none: Option<Statement>,
         declarations: Vec<Statement>,
-        nodes: Vec<Node>,
     },
     /// The branches before, and the IF or ELSE IF that heads this one.
     If {
-        outer: Box<Inside>,
+        outer: Box<Frame>,
+        before: Vec<Node>,
         branches: Vec<Branch>,
         head: Statement,
-        nodes: Vec<Node>,
     },
     Else {
-        outer: Box<Inside>,
+        outer: Box<Frame>,
+        before: Vec<Node>,
         branches: Vec<Branch>,
         head: Statement,
-        nodes: Vec<Node>,
     },
     Loop {
-        outer: Box<Inside>,
+        outer: Box<Frame>,
+        before: Vec<Node>,
         head: Statement,
-        nodes: Vec<Node>,
     },
 }
 
+/// What is open inside a unit: the innermost body so far, and what stands around it.
+#[derive(Drop)]
+pub struct Inside {
+    pub frame: Frame,
+    pub nodes: Vec<Node>,
+}
+
 /// Why a statement is not taken.
-#[derive(Clone, Copy, Debug, PartialEq, Eq)]
+#[derive(Clone, Copy)]
 pub enum Unfit {
     Misfit,
     Memory,
@@ -69,14 +75,6 @@ impl<T: Drop> From<AllocFailed<T>> for Unfit {
     }
 }
 
-/// The nodes with one more at the end.
-fn added(mut nodes: Vec<Node>, item: Node) -> Result<Vec<Node>, Unfit>
-    ensures { n.Makes (λ x. body x.items) result (Some (n.put (body nodes.items) (node item))) }
-{
-    nodes.push(item)?;
-    Ok(nodes)
-}
-
 /// The branches with one more at the end.
 #[tactic(auto, using(crate::proofs::Puts::branches_put))]
 fn branched(
@@ -95,54 +93,18 @@ fn branched(
 fn add(open: Inside, item: Node) -> Result<Inside, Unfit>
     ensures { n.Makes n.inside result (Some (n.add (n.inside «open») (node item))) }
 {
-    match open {
-        Inside::Unit {
-            head,
-            none,
-            declarations,
-            nodes,
-        } => {
-            let nodes = added(nodes, item)?;
-            Ok(Inside::Unit {
-                head,
-                none,
-                declarations,
-                nodes,
-            })
-        }
-        Inside::If {
-            outer,
-            branches,
-            head,
-            nodes,
-        } => {
-            let nodes = added(nodes, item)?;
-            Ok(Inside::If {
-                outer,
-                branches,
-                head,
-                nodes,
-            })
-        }
-        Inside::Else {
-            outer,
-            branches,
-            head,
-            nodes,
-        } => {
-            let nodes = added(nodes, item)?;
-            Ok(Inside::Else {
-                outer,
-                branches,
-                head,
-                nodes,
-            })
-        }
-        Inside::Loop { outer, head, nodes } => {
-            let nodes = added(nodes, item)?;
-            Ok(Inside::Loop { outer, head, nodes })
-        }
-    }
+    let Inside { frame, mut nodes } = open;
+    nodes.push(item)?;
+    Ok(Inside { frame, nodes })
+}
+
+/// With a block that has ended as a node at the end of the body that holds it.
+fn add_around(outer: Box<Frame>, before: Vec<Node>, item: Node) -> Result<Inside, Unfit>
+    ensures { n.Makes n.inside result (Some (n.add (n.around outer.value (body before.items)) (node item))) }
+{
+    let frame = Box::into_inner(outer);
+    let nodes = before;
+    add(Inside { frame, nodes }, item)
 }
 
 fn is_empty(nodes: &[Node]) -> bool
@@ -167,38 +129,29 @@ fn is_bare(none: &Option<Statement>, declarations: &[Statement], nodes: &[Node])
     }
 }
 
-/// Spends what is open and a statement that does not fit there.
-fn misfit(open: Inside, statement: Statement) -> Unfit
-    ensures { result ≡ Misfit }
-{
-    drop(open);
-    drop(statement);
-    Unfit::Misfit
-}
-
 /// IMPLICIT NONE stands first in a unit, and once.
 fn implicit(open: Inside, statement: Statement) -> Result<Inside, Unfit>
     ensures { n.Makes n.inside result (n.implicit (n.inside «open») (f.statement statement)) }
 {
-    match open {
-        Inside::Unit {
+    let Inside { frame, nodes } = open;
+    match frame {
+        Frame::Unit {
             head,
             none,
             declarations,
-            nodes,
         } => {
             if !is_bare(&none, declarations.as_slice(), nodes.as_slice()) {
                 return Err(Unfit::Misfit);
             }
             let none = Some(statement);
-            Ok(Inside::Unit {
+            let frame = Frame::Unit {
                 head,
                 none,
                 declarations,
-                nodes,
-            })
+            };
+            Ok(Inside { frame, nodes })
         }
-        other => Err(misfit(other, statement)),
+        _ => Err(Unfit::Misfit),
     }
 }
 
@@ -206,69 +159,75 @@ fn implicit(open: Inside, statement: Statement) -> Result<Inside, Unfit>
 fn declare(open: Inside, statement: Statement) -> Result<Inside, Unfit>
     ensures { n.Makes n.inside result (n.declare (n.inside «open») (f.statement statement)) }
 {
-    match open {
-        Inside::Unit {
+    let Inside { frame, nodes } = open;
+    match frame {
+        Frame::Unit {
             head,
             none,
             mut declarations,
-            nodes,
         } => {
             if !is_empty(nodes.as_slice()) {
                 return Err(Unfit::Misfit);
             }
             declarations.push(statement)?;
-            Ok(Inside::Unit {
+            let frame = Frame::Unit {
                 head,
                 none,
                 declarations,
-                nodes,
-            })
+            };
+            Ok(Inside { frame, nodes })
         }
-        other => Err(misfit(other, statement)),
+        _ => Err(Unfit::Misfit),
     }
 }
 
 fn else_if(alloc: Global, open: Inside, statement: Statement) -> Result<Inside, Unfit>
     ensures { n.Makes n.inside result (n.else_if (n.inside «open») (f.statement statement)) }
 {
-    match open {
-        Inside::If {
+    let Inside { frame, nodes } = open;
+    match frame {
+        Frame::If {
             outer,
+            before,
             branches,
             head,
-            nodes,
         } => {
             let branches = branched(branches, head, nodes)?;
-            Ok(Inside::If {
+            let frame = Frame::If {
                 outer,
+                before,
                 branches,
                 head: statement,
-                nodes: Vec::new(alloc),
-            })
+            };
+            let nodes = Vec::new(alloc);
+            Ok(Inside { frame, nodes })
         }
-        other => Err(misfit(other, statement)),
+        _ => Err(Unfit::Misfit),
     }
 }
 
 fn otherwise(alloc: Global, open: Inside, statement: Statement) -> Result<Inside, Unfit>
     ensures { n.Makes n.inside result (n.otherwise (n.inside «open») (f.statement statement)) }
 {
-    match open {
-        Inside::If {
+    let Inside { frame, nodes } = open;
+    match frame {
+        Frame::If {
             outer,
+            before,
             branches,
             head,
-            nodes,
         } => {
             let branches = branched(branches, head, nodes)?;
-            Ok(Inside::Else {
+            let frame = Frame::Else {
                 outer,
+                before,
                 branches,
                 head: statement,
-                nodes: Vec::new(alloc),
-            })
+            };
+            let nodes = Vec::new(alloc);
+            Ok(Inside { frame, nodes })
         }
-        other => Err(misfit(other, statement)),
+        _ => Err(Unfit::Misfit),
     }
 }
 
@@ -289,26 +248,24 @@ fn else_node(branches: Vec<Branch>, head: Statement, nodes: Vec<Node>, end: Stat
 fn end_if(open: Inside, statement: Statement) -> Result<Inside, Unfit>
     ensures { n.Makes n.inside result (n.end_if (n.inside «open») (f.statement statement)) }
 {
-    match open {
-        Inside::If {
+    let Inside { frame, nodes } = open;
+    match frame {
+        Frame::If {
             outer,
+            before,
             branches,
             head,
-            nodes,
         } => {
             let branches = branched(branches, head, nodes)?;
-            add(Box::into_inner(outer), if_node(branches, statement))
+            add_around(outer, before, if_node(branches, statement))
         }
-        Inside::Else {
+        Frame::Else {
             outer,
+            before,
             branches,
             head,
-            nodes,
-        } => add(
-            Box::into_inner(outer),
-            else_node(branches, head, nodes, statement),
-        ),
-        other => Err(misfit(other, statement)),
+        } => add_around(outer, before, else_node(branches, head, nodes, statement)),
+        _ => Err(Unfit::Misfit),
     }
 }
 
@@ -326,15 +283,20 @@ fn ends_loop(head: Role, end: Role) -> bool
 fn end_loop(open: Inside, statement: Statement, end: Role) -> Result<Inside, Unfit>
     ensures { n.Makes n.inside result (n.end_loop (n.inside «open») (f.statement statement) end) }
 {
-    match open {
-        Inside::Loop { outer, head, nodes } => {
+    let Inside { frame, nodes } = open;
+    match frame {
+        Frame::Loop {
+            outer,
+            before,
+            head,
+        } => {
             if !ends_loop(role_of(&head.form), end) {
                 return Err(Unfit::Misfit);
             }
             let body = List::of(nodes);
-            add(Box::into_inner(outer), Node::Loop(head, body, statement))
+            add_around(outer, before, Node::Loop(head, body, statement))
         }
-        other => Err(misfit(other, statement)),
+        _ => Err(Unfit::Misfit),
     }
 }
 
@@ -342,35 +304,38 @@ fn end_loop(open: Inside, statement: Statement, end: Role) -> Result<Inside, Unf
 pub(crate) fn unit_opened(alloc: Global, head: Statement) -> Inside
     ensures { n.inside result ≡ n.Top (f.statement head) None [] Empty }
 {
-    Inside::Unit {
+    let frame = Frame::Unit {
         head,
         none: None,
         declarations: Vec::new(alloc),
-        nodes: Vec::new(alloc),
-    }
+    };
+    let nodes = Vec::new(alloc);
+    Inside { frame, nodes }
 }
 
 fn if_opened(alloc: Global, open: Inside, head: Statement) -> Result<Inside, Unfit>
     ensures { n.Makes n.inside result (Some (n.InIf (n.inside «open») BNone (f.statement head) Empty)) }
 {
-    let outer = Box::new(alloc, open)?;
-    Ok(Inside::If {
-        outer,
+    let frame = Frame::If {
+        outer: Box::new(alloc, open.frame)?,
+        before: open.nodes,
         branches: Vec::new(alloc),
         head,
-        nodes: Vec::new(alloc),
-    })
+    };
+    let nodes = Vec::new(alloc);
+    Ok(Inside { frame, nodes })
 }
 
 fn loop_opened(alloc: Global, open: Inside, head: Statement) -> Result<Inside, Unfit>
     ensures { n.Makes n.inside result (Some (n.InLoop (n.inside «open») (f.statement head) Empty)) }
 {
-    let outer = Box::new(alloc, open)?;
-    Ok(Inside::Loop {
-        outer,
+    let frame = Frame::Loop {
+        outer: Box::new(alloc, open.frame)?,
+        before: open.nodes,
         head,
-        nodes: Vec::new(alloc),
-    })
+    };
+    let nodes = Vec::new(alloc);
+    Ok(Inside { frame, nodes })
 }
 
 /// What is open after a further statement of the unit, which is no END of it.
@@ -394,7 +359,7 @@ pub(crate) fn step_in(
         Role::EndIf => end_if(open, statement),
         Role::EndDo => end_loop(open, statement, Role::EndDo),
         Role::EndDoall => end_loop(open, statement, Role::EndDoall),
-        Role::Program | Role::Subroutine | Role::End => Err(misfit(open, statement)),
+        Role::Program | Role::Subroutine | Role::End => Err(Unfit::Misfit),
     }
 }
 
@@ -402,12 +367,12 @@ pub(crate) fn step_in(
 pub(crate) fn close(open: Inside, end: Statement) -> Result<UnitText, Unfit>
     ensures { n.Makes unit result (n.close (n.inside «open») (f.statement end)) }
 {
-    match open {
-        Inside::Unit {
+    let Inside { frame, nodes } = open;
+    match frame {
+        Frame::Unit {
             head,
             none,
             declarations,
-            nodes,
         } => {
             if !ends(&head.form, &end.form) {
                 return Err(Unfit::Misfit);
@@ -422,6 +387,6 @@ pub(crate) fn close(open: Inside, end: Statement) -> Result<UnitText, Unfit>
                 end,
             })
         }
-        other => Err(misfit(other, end)),
+        _ => Err(Unfit::Misfit),
     }
 }

@@ -7,7 +7,7 @@ ghost use Rattle.cdc_nest.specs.Roles as s;
 use cdc_base::List;
 use cdc_tree::{Ending, Form, Named};
 
-#[derive(Clone, Copy, Debug, PartialEq, Eq)]
+#[derive(Clone, Copy)]
 pub enum Role {
     Program,
     Subroutine,
