@@ -12,7 +12,5 @@ mod program;
 mod statements;
 mod steps;
 mod streams;
-#[cfg(test)]
-mod tests;
 
 pub use program::emit;

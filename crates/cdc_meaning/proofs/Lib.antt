@@ -7,4 +7,3 @@ mod Statements
 mod Iterations
 mod Slots
 mod Answers
-mod Programs

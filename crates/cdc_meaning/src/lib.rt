@@ -11,8 +11,6 @@ mod print;
 mod read;
 mod run;
 mod steps;
-#[cfg(test)]
-mod tests;
 
 pub use cdc_prog::Plain;
 pub use run::{Ran, run_lines, run_plain};

@@ -6,9 +6,9 @@ ghost use Rattle.cdc_prog.specs.Translation.{expr_of, target_of, stmt_of, chain,
 ghost use Rattle.cdc_prog.specs.Examples.{ref, scalar, print, one};
 ghost use Rattle.cdc_meaning.specs.Examples.{alone};
 
-use crate::{Plain, run_lines, run_plain};
 use cdc_base::{List, MemSink, NoMemory, Place};
 use cdc_input::InputRecords;
+use cdc_meaning::{Plain, run_lines, run_plain};
 use cdc_prog::{BinOp, Expr, Item, Object, Program, Ref, Stmt, Target, Unit, Var};
 use std::alloc::Global;
 use std::test::Fail;

@@ -1,0 +1,10 @@
+//! Calls that no command makes: the code of a CALL, which sources do not have yet, and a program that is carried out by
+//! itself. The programs are built by hand.
+//!
+//! The crate has tests alone.
+#![tactic(auto)]
+
+#[cfg(test)]
+mod carried_out;
+#[cfg(test)]
+mod emitted;
