@@ -2,18 +2,10 @@
 #![tactic(auto)]
 
 mod compiled;
-#[cfg(test)]
-mod compiled_tests;
-#[cfg(test)]
-mod forms_tests;
 mod laws;
-#[cfg(test)]
-mod marks_tests;
 mod refusal;
 mod refused;
 mod source;
-#[cfg(test)]
-mod tests;
 mod unbuilt;
 
 pub use compiled::{Compiled, compile};

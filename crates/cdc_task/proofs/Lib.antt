@@ -16,4 +16,3 @@ pub mod Cells
 pub mod Forks
 pub mod Serial
 pub mod Starts
-pub mod Programs

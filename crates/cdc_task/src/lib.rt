@@ -15,8 +15,6 @@ mod run;
 mod step;
 mod streams;
 mod task;
-#[cfg(test)]
-mod tests;
 mod values;
 mod words;
 

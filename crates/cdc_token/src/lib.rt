@@ -16,6 +16,3 @@ mod value;
 
 pub use logical::logical_lines;
 pub use token::{LexRefusal, Lexed, Line, Symbol, Token};
-
-#[cfg(test)]
-mod tests;

@@ -9,11 +9,7 @@ mod report;
 mod run;
 mod seq;
 mod source;
-#[cfg(test)]
-mod source_tests;
 mod status;
-#[cfg(test)]
-mod tests;
 mod tool;
 
 pub use status::{OUT_OF_MEMORY, READ_FAULT, WRITE_FAULT};

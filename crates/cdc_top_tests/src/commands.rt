@@ -1,8 +1,8 @@
 //! What no clause says: that calls succeed where memory is there, and the printed texts. Beside these the commands over files,
 //! words that are none, and faults.
 
-use crate::run_tool;
 use cdc_base::{CountSink, MemSink, MemStore, PlainStore};
+use cdc_top::run_tool;
 use std::alloc::Global;
 use std::fmt::Write;
 use std::test::Fail;

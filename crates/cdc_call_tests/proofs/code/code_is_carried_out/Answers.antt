@@ -1,5 +1,5 @@
-use Rattle.cdc_task.proofs.Programs.{one_sound, largest_sound}
-use Rattle.cdc_task.proofs.tests.code_is_carried_out.Goals as goal
+use Rattle.cdc_call_tests.proofs.Codes.{one_sound, largest_sound}
+use Rattle.cdc_call_tests.proofs.code.code_is_carried_out.Goals as goal
 
 pub run_alone-requires-clause-sound : goal.run_alone-requires-clause-sound
 run_alone-requires-clause-sound g c = one_sound c.in_ok-sum.sum c.in_ok-sum.ensures

@@ -1,7 +1,7 @@
 //! What no clause says: that calls succeed where memory is there, and the printed texts.
 
-use crate::{Refusal, program, write_refusal};
 use cdc_base::{MemSink, Place, SinkFault};
+use cdc_compile::{Refusal, program, write_refusal};
 use cdc_prog::Program;
 use cdc_text::{Text, write_texts, write_words};
 use cdc_token::LexRefusal;

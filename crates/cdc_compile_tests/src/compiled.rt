@@ -1,7 +1,7 @@
 //! Sources, and the instructions that the table of templates gives for them.
 
-use crate::compile;
 use cdc_code::Instr;
+use cdc_compile::compile;
 use cdc_prog::{Mark, Var};
 use std::test::Fail;
 

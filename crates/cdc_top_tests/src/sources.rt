@@ -1,10 +1,10 @@
 //! The commands over a source alone: `check`, `marks` and `code`.
 
-use crate::run_tool;
-use crate::tests::{
+use crate::commands::{
     ACCEPTED, CHECK, CODE, LISTED, MARKED, MARKS, ONE, one_file, program_of, split_words,
 };
 use cdc_base::{MemSink, PlainStore};
+use cdc_top::run_tool;
 use std::alloc::Global;
 use std::fmt::Write;
 use std::test::Fail;

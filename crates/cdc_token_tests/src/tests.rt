@@ -1,7 +1,7 @@
 ghost use Rattle.std.specs.Prelude.{◌≤◌, length};
 
-use crate::{LexRefusal, Lexed, Line, Token, logical_lines};
 use cdc_base::Place;
+use cdc_token::{LexRefusal, Lexed, Line, Token, logical_lines};
 use std::alloc::Global;
 use std::fmt::Write;
 use std::str::from_utf8;

@@ -1,8 +1,8 @@
 //! Sources with the marks of their sites in order, 0 for a store and for an ordinary read: each edge of the flow graph, each
 //! kind of section and each rule of covers, on both sides of its border.
 
-use crate::compile;
-use crate::forms_tests::repeated;
+use crate::forms::repeated;
+use cdc_compile::compile;
 use cdc_prog::Mark;
 use std::alloc::Global;
 use std::test::Fail;

@@ -3,11 +3,11 @@ ghost use Rattle.std.specs.Prelude.{◌≡◌, IfOk, [], ◌∷◌};
 ghost use Rattle.cdc_prog.specs.Examples.{scalar, one, largest};
 ghost use Rattle.cdc_code.specs.Examples.{unmarked};
 
-use crate::{Mark, Plain, run_alone};
 use cdc_base::{List, MemSink, NoMemory};
 use cdc_code::{Code, Instr, Step, Var};
 use cdc_input::InputRecords;
 use cdc_prog::Object;
+use cdc_task::{FaultKind, Mark, Plain, run_alone};
 use std::alloc::Global;
 use std::test::Fail;
 
@@ -105,7 +105,7 @@ fn code_is_carried_out(rt: HostRuntime) -> Result<(), Fail> {
     let mut lines = MemSink::new(alloc, 200, vec![in alloc]?)?;
     assert_eq!(rt;
         run_alone(alloc, &turns, &records, &mut lines),
-        Plain::Fault(crate::FaultKind::Overflow, 2)
+        Plain::Fault(FaultKind::Overflow, 2)
     );
     assert_eq!(rt;
         lines.bytes(),

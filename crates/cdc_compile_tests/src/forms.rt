@@ -1,6 +1,6 @@
 //! Whole sources for the statement forms, nesting and depth: what is a statement, and on which line one is refused.
 
-use crate::tests::write_answer;
+use crate::answers::write_answer;
 use cdc_base::MemSink;
 use std::alloc::Global;
 use std::test::Fail;
