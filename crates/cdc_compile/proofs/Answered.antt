@@ -9,7 +9,7 @@ use Rattle.cdc_token.specs.Refusals.{IsRefused}
 use Rattle.cdc_tree.specs.Forms.{PStatement}
 use Rattle.cdc_tree.specs.Units.{PUnit}
 use Rattle.cdc_tree.specs.Order.{InOrder}
-use Rattle.cdc_token.specs.declared.token.Line.{Line}
+use Rattle.cdc_token.specs.Lines.{Line}
 use Rattle.cdc_tree.specs.declared.refusal.ParseRefusal.{ParseRefusal}
 use Rattle.cdc_tree.specs.declared.refusal.ParseRefusal.TheVariants as p
 use Rattle.cdc_parse.specs.Lines.{AreStatements}

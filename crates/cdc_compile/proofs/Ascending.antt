@@ -2,7 +2,7 @@
 use Rattle.std.proofs.Common.{◌≡◌, ℕ, ◌+◌, ◌≤◌, Bool, true, false, List, [], ◌∷◌, ◌++◌, length, Some, None, sym, ap, ◌∙◌, subst, refl, arith}
 use Rattle.std.specs.List.{AllByRecursion}
 use Rattle.cdc_base.specs.declared.place.Place.{Place}
-use Rattle.cdc_token.specs.declared.token.Line.{Line}
+use Rattle.cdc_token.specs.Lines.{Line}
 use Rattle.cdc_token.specs.declared.token.Lexed.{Lexed}
 use Rattle.cdc_token.specs.declared.meaning.Meaning.{Meaning}
 use Rattle.cdc_token.specs.declared.meaning.Meaning.TheVariants.{Nothing, End, Token}

@@ -1,6 +1,6 @@
 -- In the units of a source each DO and DOALL is the head of its loop.
 use Rattle.std.proofs.Common.{◌≡◌, inl, inr, Bool, true, false, List, [], ◌∷◌, ◌++◌, refl, subst, ◌∙◌}
-use Rattle.cdc_token.specs.declared.token.Line.{Line}
+use Rattle.cdc_token.specs.Lines.{Line}
 use Rattle.cdc_tree.specs.Forms.{PStatement, PForm, FAssign, FLogicalIf, FDo, FDoall, FCall, FPrint, FRead}
 use Rattle.cdc_tree.specs.Order.{Each}
 use Rattle.cdc_tree.specs.Units.{PNode, NPlain, NIf, NElse, NLoop, PBody, Empty, More, PBranches, BNone, BMore, PUnit, node_out, out, branches_out, none_out, unit_out, written_out}

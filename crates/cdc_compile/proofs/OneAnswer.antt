@@ -2,7 +2,7 @@
 use Rattle.std.proofs.Common.{◌≡◌, ℕ, ◌<◌, ◌≤◌, ◌⊎◌, List, length, Option, Some, None, Result, Ok, Err, refl, sym, ap, subst, ◌∙◌, arith, inl, inr}
 use Rattle.std.specs.Prelude.{◌≢◌}
 use Rattle.cdc_base.specs.declared.place.Place.{Place}
-use Rattle.cdc_token.specs.declared.token.Line.{Line}
+use Rattle.cdc_token.specs.Lines.{Line}
 use Rattle.cdc_token.specs.declared.token.LexRefusal.{LexRefusal}
 use Rattle.cdc_token.specs.declared.token.LexRefusal.TheVariants as l
 use Rattle.cdc_token.specs.Logical.{AreLogicalLines}

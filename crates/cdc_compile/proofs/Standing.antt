@@ -2,7 +2,7 @@
 use Rattle.std.proofs.Common.{◌≡◌, ℕ, ◌≤◌, List, [], ◌∷◌, ◌++◌, Option, Some, None, inl, inr, sym, subst, ◌∙◌, arith}
 use Rattle.std.proofs.lemmas.List.{append-nil}
 use Rattle.cdc_token.specs.declared.token.Lexed.{Lexed}
-use Rattle.cdc_token.specs.declared.token.Line.{Line}
+use Rattle.cdc_token.specs.Lines.{Line}
 use Rattle.cdc_token.specs.declared.token.Symbol.TheVariants as q
 use Rattle.cdc_tree.specs.Order.{Each}
 use Rattle.cdc_tree.specs.Plain.{Plain}

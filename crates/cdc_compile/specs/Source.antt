@@ -1,7 +1,7 @@
 -- What is answered for a source: its resolved program, or the first of its refusals in the order of the stages.
 use Rattle.std.specs.Prelude.{◌≡◌, ℕ, ◌<◌, ◌≤◌, ◌⊎◌, List, length, Result, Ok, Err, Some, None}
 use Rattle.cdc_base.specs.declared.place.Place.{Place}
-use Rattle.cdc_token.specs.declared.token.Line.{Line}
+use Rattle.cdc_token.specs.Lines.{Line}
 use Rattle.cdc_token.specs.declared.token.LexRefusal.{LexRefusal}
 use Rattle.cdc_token.specs.declared.token.LexRefusal.TheVariants as l
 use Rattle.cdc_token.specs.Logical.{AreLogicalLines}

@@ -22,11 +22,11 @@ use cdc_nest::units;
 use cdc_parse::statements;
 use cdc_prog::{Kind, Program, limit};
 use cdc_subtest::first_conflict;
-use cdc_token::{Line, logical_lines};
+use cdc_token::{Lines, logical_lines};
 use cdc_tree::{ParseRefusal, Statement, UnitText};
 use std::alloc::Global;
 
-fn lines_of(alloc: Global, source: &[u8]) -> Result<List<Line>, Refusal>
+fn lines_of(alloc: Global, source: &[u8]) -> Result<Lines, Refusal>
     ensures lines { IfOk result (HasLines source.now) }
     ensures refused { IfErr result (λ refusal. IsProgramOf source.now (Err refusal)) }
 {

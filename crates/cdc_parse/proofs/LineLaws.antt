@@ -3,7 +3,7 @@ use Rattle.std.proofs.Common.{◌≡◌, ℕ, ◌+◌, ◌<◌, ◌≤◌, List,
 use Rattle.std.proofs.lemmas.List.{append-nil, take_all}
 use Rattle.cdc_base.specs.declared.place.Place.{Place}
 use Rattle.cdc_token.specs.declared.token.Lexed.{Lexed}
-use Rattle.cdc_token.specs.declared.token.Line.{Line}
+use Rattle.cdc_token.specs.Lines.{Line}
 use Rattle.cdc_tree.specs.declared.form.Statement.{Statement}
 use Rattle.cdc_tree.specs.declared.refusal.ParseRefusal.{ParseRefusal}
 use Rattle.cdc_tree.specs.declared.refusal.ParseRefusal.TheVariants.{NotAStatement, Depth, Nesting, Memory}
@@ -18,13 +18,6 @@ use Rattle.cdc_tree.proofs.Order.{each_append, each_map, ascending_after}
 use Rattle.cdc_parse.proofs.Deep.{deepest-least}
 use Rattle.cdc_parse.proofs.FormSound.{statement_sound}
 use Rattle.cdc_parse.proofs.FormAgain.{statement_again}
-
--- the first line, and the others
-pub cut : (rest : List Line) (line : Line) → 1 ≤ length rest → line ≡ get_or rest 0 line → rest ≡ line ∷ take (length rest - 1) (drop 1 rest)
-cut [] line le here = absurd (omega arith)
-cut (x ∷ xs) line le here =
-    let few : length (x ∷ xs) - 1 ≡ length xs = omega arith in
-    ap (λ (y : Line). y ∷ xs) (sym here) ∙ ap (λ (z : List Line). line ∷ z) (sym (ap (λ (n : ℕ). take n xs) few ∙ take_all (length xs) xs (omega arith)))
 
 -- ---- depth of one line
 
@@ -167,11 +160,11 @@ none_stands ts within e s h =
     absurd cc
 
 -- the line's tokens, as the code sees them
-pub line_good : (ts us : List Lexed) (s : PStatement) → us ≡ ts → IsWithin us → statement_at us ≡ Some s → IsWithin ts × StandsFor s ts
-line_good ts us s e within found = (subst IsWithin e within, subst (StandsFor s) e (statement_sound us s found))
+pub line_good : (ts : List Lexed) (s : PStatement) → IsWithin ts → statement_at ts ≡ Some s → IsWithin ts × StandsFor s ts
+line_good ts s within found = (within, statement_sound ts s found)
 
-pub line_none : (ts us : List Lexed) → us ≡ ts → IsWithin us → statement_at us ≡ None → IsWithin ts × HasNone ts
-line_none ts us e within none = (subst IsWithin e within, subst HasNone e (none_stands us within none))
+pub line_none : (ts : List Lexed) → IsWithin ts → statement_at ts ≡ None → IsWithin ts × HasNone ts
+line_none ts within none = (within, none_stands ts within none)
 
 -- no line has two statements
 pub one_statement : (ts : List Lexed) (s t : PStatement) → deepest 0 ts ≤ 64 → StandsFor s ts → StandsFor t ts → s ≡ t

@@ -2,7 +2,7 @@
 use Rattle.std.specs.Prelude.{◌≡◌, ℕ, ◌<◌, ◌≤◌, List, [], ◌∷◌, ◌++◌, length, map, Some, Result, Ok, Err}
 use Rattle.cdc_base.specs.declared.place.Place.{Place}
 use Rattle.cdc_token.specs.declared.token.Lexed.{Lexed}
-use Rattle.cdc_token.specs.declared.token.Line.{Line}
+use Rattle.cdc_token.specs.Lines.{Line}
 use Rattle.cdc_tree.specs.declared.form.Statement.{Statement}
 use Rattle.cdc_tree.specs.declared.refusal.ParseRefusal.{ParseRefusal}
 use Rattle.cdc_tree.specs.declared.refusal.ParseRefusal.TheVariants.{NotAStatement, Depth, Nesting, Memory}

@@ -1,6 +1,7 @@
 //! The statements of logical lines.
 
 ghost use Rattle.std.specs.Prelude.{◌≡◌, ◌≤◌, map, true, false, IfOk};
+ghost use Rattle.cdc_token.specs.Lines.{line_of};
 ghost use Rattle.cdc_parse.specs.Depth.{opened, IsDeep};
 ghost use Rattle.cdc_tree.specs.Forms.{statement};
 ghost use Rattle.cdc_tree.specs.Order.{Each, InOrder};
@@ -9,7 +10,7 @@ ghost use Rattle.cdc_parse.specs.Lines.{Ascend, IsNumbered, SomeLine, IsWithin, 
 use crate::heads::statement;
 use crate::refusal::Unread;
 use cdc_base::List;
-use cdc_token::{Lexed, Line, Symbol, Token};
+use cdc_token::{Lexed, Line, Lines, LinesFrom, Symbol, Token};
 use cdc_tree::{ParseRefusal, Statement};
 use std::alloc::Global;
 
@@ -50,23 +51,23 @@ fn is_deep(tokens: &[Lexed]) -> bool
 }
 
 /// Whether the line has this number and is over a limit of depth.
-fn deep_here(line: &Line, number: u32) -> bool
-    ensures deep { result ≡ true → (line.now.line ≡ number) × IsDeep line.now.tokens }
-    ensures within { result ≡ false → line.now.line ≡ number → IsWithin line.now.tokens }
+fn deep_here(line: Line, number: u32) -> bool
+    ensures deep { result ≡ true → (line.entry.line ≡ number) × IsDeep line.entry.tokens.now }
+    ensures within { result ≡ false → line.entry.line ≡ number → IsWithin line.entry.tokens.now }
 {
     if line.line == number {
-        return is_deep(line.tokens.as_slice());
+        return is_deep(line.tokens);
     }
     false
 }
 
 /// Whether one of the lines has this number and is over a limit of depth.
-fn any_deep(lines: &[Line], number: u32) -> bool
-    ensures deep { result ≡ true → SomeLine lines.now number IsDeep }
-    ensures within { result ≡ false → Each (λ l. l.line ≡ number → IsWithin l.tokens) lines.now }
+fn any_deep(lines: LinesFrom, number: u32) -> bool
+    ensures deep { result ≡ true → SomeLine lines.entry number IsDeep }
+    ensures within { result ≡ false → Each (λ l. l.line ≡ number → IsWithin l.tokens) lines.entry }
 {
     let mut rest = lines;
-    while let [line, after @ ..] = rest {
+    while let Some((line, after)) = rest.split_first() {
         if deep_here(line, number) {
             return true;
         }
@@ -76,14 +77,13 @@ fn any_deep(lines: &[Line], number: u32) -> bool
 }
 
 /// The statement of one line.
-pub(crate) fn line_statement(alloc: Global, line: &Line) -> Result<Statement, ParseRefusal>
-    ensures { IsStatement line.now result }
+pub(crate) fn line_statement(alloc: Global, line: Line) -> Result<Statement, ParseRefusal>
+    ensures { IsStatement (line_of line.entry) result }
 {
-    let tokens = line.tokens.as_slice();
-    if is_deep(tokens) {
+    if is_deep(line.tokens) {
         return Err(ParseRefusal::Depth(line.line));
     }
-    match statement(alloc, tokens) {
+    match statement(alloc, line.tokens) {
         Ok(statement) => Ok(statement),
         Err(Unread::NotAStatement) => Err(ParseRefusal::NotAStatement(line.line)),
         Err(Unread::Memory) => Err(ParseRefusal::Memory),
@@ -92,8 +92,8 @@ pub(crate) fn line_statement(alloc: Global, line: &Line) -> Result<Statement, Pa
 
 /// The refusal of a line, where further lines may have the same number: one that is over a limit
 /// of depth comes before one that is no statement.
-fn first_refusal(refusal: ParseRefusal, further: &[Line]) -> ParseRefusal
-    ensures { IsForemost further.now refusal result }
+fn first_refusal(refusal: ParseRefusal, further: LinesFrom) -> ParseRefusal
+    ensures { IsForemost further.entry refusal result }
 {
     match refusal {
         ParseRefusal::NotAStatement(number) => {
@@ -108,13 +108,13 @@ fn first_refusal(refusal: ParseRefusal, further: &[Line]) -> ParseRefusal
 }
 
 /// The statements of the lines, one for each.
-fn each_statement(alloc: Global, lines: &List<Line>) -> Result<List<Statement>, ParseRefusal>
+fn each_statement(alloc: Global, lines: &Lines) -> Result<List<Statement>, ParseRefusal>
     requires { Ascend lines.now }
     ensures { AreStatements lines.now result }
 {
     let mut statements = Vec::new(alloc);
-    let mut rest = lines.as_slice();
-    while let [line, after @ ..] = rest {
+    let mut rest = lines.all();
+    while let Some((line, after)) = rest.split_first() {
         match line_statement(alloc, line) {
             Ok(statement) => statements.push(statement)?,
             Err(refusal) => return Err(first_refusal(refusal, after)),
@@ -128,7 +128,7 @@ fn each_statement(alloc: Global, lines: &List<Line>) -> Result<List<Statement>, 
 ///
 /// The least line is refused, and on one line `Depth` comes before `NotAStatement`. `Nesting` is
 /// never answered.
-pub fn statements(alloc: Global, lines: &List<Line>) -> Result<List<Statement>, ParseRefusal>
+pub fn statements(alloc: Global, lines: &Lines) -> Result<List<Statement>, ParseRefusal>
     requires { Ascend lines.now }
     ensures answer { AreStatements lines.now result }
     // Where each line has the number of its first token, the statements are in order too.

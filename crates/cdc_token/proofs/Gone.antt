@@ -32,7 +32,7 @@ pub record Gone (source : List ℕ) (g : Gathered) (n : ℕ) (was : Bool) (rest 
   pub back : (d : Fault) (l c : ℕ) → HoldsIn n was (lines rest) d l c → HoldsAt source d l c
   pub small : n + length rest ≤ length source + 1
 
-pub gone_start : (source : List ℕ) (g : Gathered) → g.done.items ≡ [] → g.begun.items ≡ [] → Gone source g 1 false source
+pub gone_start : (source : List ℕ) (g : Gathered) → g.done ≡ [] → g.begun ≡ [] → Gone source g 1 false source
 gone_start source g done begun = record {
   read = λ pss cut. record { pieces = pss; cut = cut; same = λ i. done i ++ gather (begun i) (items 1 false pss) };
   left = λ d l c h. h;
@@ -90,11 +90,11 @@ module _ {source : List ℕ} {g : Gathered} {n : ℕ} {was : Bool} {rest : List 
           let same : ps ≡ taken.pieces = one_reading ps taken.pieces line leads taken.leads in
           subst (λ b. HoldsIn (n + 1) b (lines next) d l c) (ap (goes_on was) same ∙ sym taken.open_is) h
 
-pub gone_end : (source : List ℕ) (g new : Gathered) (n : ℕ) (was : Bool) (rest : List ℕ) → Gone source g n was rest → rest ≡ [] → Takes g new (None ∷ []) → new.begun.items ≡ [] → AreLogicalLines source new.done.items
+pub gone_end : (source : List ℕ) (g new : Gathered) (n : ℕ) (was : Bool) (rest : List ℕ) → Gone source g n was rest → rest ≡ [] → Takes g new (None ∷ []) → new.begun ≡ [] → AreLogicalLines source new.done
 gone_end source g new n was rest gone none takes empty =
     let nothing : lines rest ≡ [] = ap lines none in
     let all = gone.read [] (subst (Read []) (sym nothing) tt) in
-    let done : whole new [] ≡ new.done.items = ap (λ xs. new.done.items ++ gather xs []) empty ∙ append-nil _ in
+    let done : whole new [] ≡ new.done = ap (λ xs. new.done ++ gather xs []) empty ∙ append-nil _ in
     record {
       pieces = all.pieces;
       cut = all.cut;

@@ -4,12 +4,12 @@ use Rattle.std.specs.List.{flat_map, AllByRecursion}
 use Rattle.cdc_base.specs.declared.place.Place.{Place}
 use Rattle.cdc_token.specs.declared.piece.Kind.{Kind}
 use Rattle.cdc_token.specs.declared.fault.Fault.{Fault}
-use Rattle.cdc_token.specs.declared.token.Line.{Line}
 use Rattle.cdc_token.specs.declared.token.Lexed.{Lexed}
 use Rattle.cdc_token.specs.Pieces.{Is, IsPiece, Piece, Leads}
 use Rattle.cdc_token.specs.Refusals.{ComesFirst, IsFirst}
 use Rattle.cdc_token.specs.Tokens.{Item}
-use Rattle.cdc_token.specs.Logical.{closed, gather, items, AreLogicalLines}
+use Rattle.cdc_token.specs.Lines.{Line, closed}
+use Rattle.cdc_token.specs.Logical.{gather, items, AreLogicalLines}
 use Rattle.cdc_token.proofs.Reached.{kind_once, piece_once, nonempty}
 
 -- ---- a line has one list of pieces

@@ -6,3 +6,4 @@ pub mod Reached
 pub mod Limit
 pub mod Laws
 pub mod Gone
+pub mod Cuts

@@ -4,6 +4,7 @@ pub mod Symbols
 pub mod Pieces
 pub mod Tokens
 pub mod Refusals
+pub mod Lines
 pub mod Logical
 -- what the functions within give
 pub mod Cutting

@@ -2,8 +2,8 @@
 use Rattle.std.specs.Prelude.{◌≡◌, ℕ, ◌+◌, Bool, false, if◌then◌else◌, List, [], ◌∷◌, ◌++◌, length, Some, None}
 use Rattle.std.specs.List.{AllZip}
 use Rattle.std.specs.Str.Lines.{lines}
-use Rattle.cdc_token.specs.declared.token.Line.{Line}
 use Rattle.cdc_token.specs.declared.token.Lexed.{Lexed}
+use Rattle.cdc_token.specs.Lines.{Line, closed}
 use Rattle.cdc_token.specs.Pieces.{Piece, Leads, goes_on}
 use Rattle.cdc_token.specs.Tokens.{Item, meaning, items_of}
 use Rattle.cdc_token.specs.Refusals.{NoFault}
@@ -22,11 +22,6 @@ ending on = if on then [] else None ∷ []
 abbrev pub items : ℕ → Bool → List (List Piece) → List Item
 items line was [] = []
 items line was (ps ∷ more) = line_items line 1 ps ++ ending (goes_on was ps) ++ items (line + 1) (goes_on was ps) more
-
--- a logical line has the line of its first token; one without tokens is dropped
-abbrev pub closed : List Lexed → List Line → List Line
-closed [] more = more
-closed (t ∷ ts) more = record { line = t.place.line; tokens = t ∷ ts } ∷ more
 
 -- items cut at the ends of logical lines, after the tokens of the one that is begun
 abbrev pub gather : List Lexed → List Item → List Line

@@ -4,11 +4,11 @@ use Rattle.cdc_token.specs.declared.fault.Fault.{Fault}
 use Rattle.cdc_token.specs.declared.fault.Fault.TheVariants.{BadByte, OpenText, NameLong, NumberWide, LineLong}
 use Rattle.cdc_token.specs.declared.fault.LineRefusal.{LineRefusal}
 use Rattle.cdc_token.specs.declared.fault.LineRefusal.TheVariants.{At, Memory}
-use Rattle.cdc_token.specs.declared.token.Line.{Line}
 use Rattle.cdc_token.specs.declared.token.LexRefusal.{LexRefusal}
 use Rattle.cdc_token.specs.declared.token.LexRefusal.TheVariants as refused
 use Rattle.cdc_token.specs.declared.gathered.Gathered.{Gathered}
 use Rattle.cdc_base.specs.declared.place.Place.{Place}
+use Rattle.cdc_token.specs.Lines.{Line}
 use Rattle.cdc_token.specs.Pieces.{Piece, Leads, goes_on}
 use Rattle.cdc_token.specs.Tokens.{Item}
 use Rattle.cdc_token.specs.Refusals.{Seen, Holds, IsBad, IsOpenText}
@@ -16,7 +16,7 @@ use Rattle.cdc_token.specs.Logical.{line_items, ending, gather}
 
 -- the logical lines that are there, with those of the items to come
 abbrev pub whole : Gathered → List Item → List Line
-whole g more = g.done.items ++ gather g.begun.items more
+whole g more = g.done ++ gather g.begun more
 
 -- the items were taken
 abbrev pub Takes : Gathered → Gathered → List Item → Type 0

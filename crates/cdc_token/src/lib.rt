@@ -6,6 +6,7 @@ mod closing;
 mod fault;
 mod gathered;
 mod line;
+mod lines;
 mod logical;
 mod meaning;
 mod physical;
@@ -14,5 +15,6 @@ mod spelling;
 mod token;
 mod value;
 
+pub use lines::{Line, Lines, LinesFrom};
 pub use logical::logical_lines;
-pub use token::{LexRefusal, Lexed, Line, Symbol, Token};
+pub use token::{LexRefusal, Lexed, Symbol, Token};

@@ -106,7 +106,7 @@ fn take_pieces(
             line: number,
             column,
         };
-        gathered.add(alloc, means, place)?;
+        gathered.add(means, place)?;
         first = still_first(kind, first);
         goes_on = still_open(kind, goes_on);
         column += n as u32;
@@ -145,7 +145,7 @@ pub fn take_line(
     let seen = take_pieces(gathered, alloc, number, continued, line);
     let goes_on = with_limit(seen, line.len())?;
     if !goes_on {
-        gathered.close(alloc)?;
+        gathered.close()?;
     }
     Ok(goes_on)
 }

@@ -7,9 +7,9 @@ ghost use Rattle.cdc_token.specs.Refusals.{IsRefused};
 use crate::fault::in_line;
 use crate::gathered::Gathered;
 use crate::line::take_line;
+use crate::lines::Lines;
 use crate::physical::first_line;
-use crate::token::{LexRefusal, Line};
-use cdc_base::List;
+use crate::token::LexRefusal;
 use std::alloc::Global;
 
 /// The logical lines of a source of at most 262,144 bytes: its tokens, with their places, up to each `;` and to each end of
@@ -18,7 +18,7 @@ use std::alloc::Global;
 /// # Errors
 ///
 /// A source that has a fault is refused by its first one; at one place `LineLong` is first. `Memory` may come at any time.
-pub fn logical_lines(alloc: Global, source: &[u8]) -> Result<List<Line>, LexRefusal>
+pub fn logical_lines(alloc: Global, source: &[u8]) -> Result<Lines, LexRefusal>
     requires { length source.now ≤ 262144 }
     ensures ok { IfOk result (λ logical. AreLogicalLines source.now logical) }
     ensures refused { IfErr result (λ e. IsRefused source.now e) }
@@ -36,8 +36,8 @@ pub fn logical_lines(alloc: Global, source: &[u8]) -> Result<List<Line>, LexRefu
         number += 1;
         rest = after;
     }
-    match gathered.close(alloc) {
-        Ok(()) => Ok(List::of(gathered.done)),
+    match gathered.close() {
+        Ok(()) => Ok(gathered.into_lines()),
         Err(_) => Err(LexRefusal::Memory),
     }
 }

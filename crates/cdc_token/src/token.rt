@@ -42,13 +42,6 @@ pub struct Lexed {
     pub place: Place,
 }
 
-/// A logical line: its tokens, at least one, and the line of the first.
-#[derive(Debug, Drop)]
-pub struct Line {
-    pub line: u32,
-    pub tokens: List<Lexed>,
-}
-
 /// Why a source has no tokens, with the place of the byte.
 #[derive(Clone, Copy, Debug, PartialEq, Eq)]
 pub enum LexRefusal {

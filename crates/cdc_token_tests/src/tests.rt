@@ -1,7 +1,7 @@
 ghost use Rattle.std.specs.Prelude.{◌≤◌, length};
 
 use cdc_base::Place;
-use cdc_token::{LexRefusal, Lexed, Line, Token, logical_lines};
+use cdc_token::{LexRefusal, Lexed, Line, Lines, Token, logical_lines};
 use std::alloc::Global;
 use std::fmt::Write;
 use std::str::from_utf8;
@@ -19,9 +19,9 @@ fn write_token(out: &mut String, lexed: &Lexed) -> Result<(), Fail> {
     Ok(())
 }
 
-fn write_line(out: &mut String, line: &Line) -> Result<(), Fail> {
+fn write_line(out: &mut String, line: Line) -> Result<(), Fail> {
     write!(out, "{}:", line.line)?;
-    for lexed in line.tokens.as_slice() {
+    for lexed in line.tokens {
         write_token(out, lexed)?;
     }
     out.push('\n')?;
@@ -48,8 +48,10 @@ fn answer(alloc: Global, source: &[u8]) -> Result<String, Fail>
     let mut out = String::new(alloc);
     match logical_lines(alloc, source) {
         Ok(lines) => {
-            for line in lines.as_slice() {
+            let mut rest = lines.all();
+            while let Some((line, after)) = rest.split_first() {
                 write_line(&mut out, line)?;
+                rest = after;
             }
         }
         Err(refusal) => write_refusal(&mut out, refusal)?,
@@ -206,13 +208,23 @@ fn joined(
     Ok(source)
 }
 
+fn count(lines: &Lines) -> usize {
+    let mut rest = lines.all();
+    let mut count: usize = 0;
+    while let Some((_, after)) = rest.split_first() {
+        count = count.saturating_add(1);
+        rest = after;
+    }
+    count
+}
+
 // The number of logical lines, or the refusal, as text.
 fn outline(alloc: Global, source: &[u8]) -> Result<String, Fail>
     requires { length source.now ≤ 262144 }
 {
     let mut out = String::new(alloc);
     match logical_lines(alloc, source) {
-        Ok(lines) => write!(out, "{} lines", lines.as_slice().len())?,
+        Ok(lines) => write!(out, "{} lines", count(&lines))?,
         Err(refusal) => write_refusal(&mut out, refusal)?,
     }
     Ok(out)

@@ -1,6 +1,6 @@
-use Rattle.cdc_parse.proofs.LineLaws.{cut, passed_more}
+use Rattle.cdc_parse.proofs.LineLaws.{passed_more}
 use Rattle.cdc_parse.proofs.lines.any_deep.Goals as goal
 
-pub loop-rest-preserved : goal.loop-rest-preserved
-loop-rest-preserved c =
-    passed_more c.args.lines.now c.loop-rest.rest.now _ c.line-item.result c.args.number c.loop-rest.invariant (cut c.loop-rest.rest.now c.line-item.result c.in-len1-up.len_at_least c.line-item.is) (c.deep_here.ensures.within c.if-deep_here.false)
+pub loop-line-preserved : goal.loop-line-preserved
+loop-line-preserved c =
+    passed_more c.args.lines c.loop-line.rest _ _ c.args.number c.loop-line.invariant c.in-Some.ensures (c.deep_here.ensures.within c.if-deep_here.false)

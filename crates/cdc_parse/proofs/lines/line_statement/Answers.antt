@@ -4,11 +4,9 @@ use Rattle.cdc_parse.proofs.LineLaws.{line_good, line_none}
 use Rattle.cdc_parse.proofs.lines.line_statement.Goals as goal
 
 pub returns-in-Ok : goal.returns-in-Ok
-returns-in-Ok c =
-    let h = line_good c.args.line.now.tokens c.as_slice-tokens.result.now (statement c.in-Ok.statement) c.as_slice-tokens.ensures (c.is_deep.ensures.within c.if-is_deep.false) c.in-Ok.ensures in
-    (h.0, h.1)
+returns-in-Ok c = line_good c.args.line.tokens.now (statement c.in-Ok.statement) (c.is_deep.ensures.within c.if-is_deep.false) c.in-Ok.ensures
 
 pub returns-in-Err-NotAStatement : goal.returns-in-Err-NotAStatement
 returns-in-Err-NotAStatement c =
-    let h = line_none c.args.line.now.tokens c.as_slice-tokens.result.now c.as_slice-tokens.ensures (c.is_deep.ensures.within c.if-is_deep.false) (rw c.in-Err-NotAStatement.field-0-is at c.in-Err-NotAStatement.ensures) in
+    let h = line_none c.args.line.tokens.now (c.is_deep.ensures.within c.if-is_deep.false) (rw c.in-Err-NotAStatement.field-0-is at c.in-Err-NotAStatement.ensures) in
     (refl, h.0, h.1)

@@ -16,5 +16,4 @@ pub returns-in-Ok-close-clause-ok : goal.returns-in-Ok-close-clause-ok
 returns-in-Ok-close-clause-ok c =
     let none = nil_from_length _ (true-eqb (length c.loop-rest.rest.now) 0 c.loop-rest-test.ensures) in
     let all = gone_end _ _ c.close.new.self _ _ _ c.loop-rest.invariant none c.in-Ok-close.ensures.taken c.in-Ok-close.ensures.empty in
-    let is = c.of.ensures in
-    subst (AreLogicalLines c.args.source.now) (sym is) all
+    subst (AreLogicalLines c.args.source.now) (sym c.into_lines.ensures) all
