@@ -1,5 +1,5 @@
 -- Views of lists with one more item at the end.
-use Rattle.std.proofs.Common.{◌≡◌, List, [], ◌∷◌, ◌++◌, map, refl, sym, ap, ◌∙◌, Option, Some, None, rules, ◌≤◌, length, Bool, true, false, cond, arith}
+use Rattle.std.proofs.Common.{◌≡◌, List, [], ◌∷◌, ◌++◌, map, refl, sym, ap, ◌∙◌, Some, rules, ◌≤◌, length, false, arith}
 use Rattle.std.proofs.lemmas.List.{map-append}
 use Rattle.cdc_tree.specs.declared.form.Statement.{Statement}
 use Rattle.cdc_tree.specs.declared.unit.Node.{Node, the_lemmas}
@@ -9,7 +9,7 @@ use Rattle.cdc_tree.specs.Forms.{PStatement, statement}
 use Rattle.cdc_tree.specs.Units.{PNode, PBody, More, BMore, NElse, body_of, branches_of, node, body, branch}
 use Rattle.cdc_nest.specs.declared.inside.Frame.{Frame}
 use Rattle.cdc_nest.specs.declared.inside.Frame as c
-use Rattle.cdc_nest.specs.Nesting.{PInside, Top, put, put_branch, add, around, is_empty, declare}
+use Rattle.cdc_nest.specs.Nesting.{put, put_branch, add, around, is_empty}
 use Rattle.cdc_tree.proofs.Options.{some}
 
 body_of_put : (ns : List PNode) (n : PNode) → body_of (ns ++ (n ∷ [])) ≡ put (body_of ns) n
@@ -32,16 +32,6 @@ node_put f before now n e = add_within f (body before) (node n) ∙ ap (around f
 branches_of_put : (bs : List (PStatement × PBody)) (b : PStatement × PBody) → branches_of (bs ++ (b ∷ [])) ≡ put_branch (branches_of bs) b.0 b.1
 branches_of_put [] b = refl
 branches_of_put (a ∷ bs) b = ap (BMore a.0 a.1) (branches_of_put bs b)
-
-pub declarations_put : (before now : List Statement) (s : Statement) → now ≡ before ++ (s ∷ []) → map statement now ≡ map statement before ++ (statement s ∷ [])
-declarations_put before now s e = ap (map statement) e ∙ map-append statement before (s ∷ [])
-
--- a declaration more, where no executable statement stands
-pub declare_put : (i : PInside) (h : PStatement) (none : Option PStatement) (before now : List Statement) (b : PBody) (s : Statement) (t : Bool) → i ≡ Top h none (map statement before) b → t ≡ is_empty b → t ≡ true → now ≡ before ++ (s ∷ []) → declare i (statement s) ≡ Some (Top h none (map statement now) b)
-declare_put i h none before now b s t e bare is made =
-    ap (λ (j : PInside). declare j (statement s)) e
-    ∙ ap (λ (u : Bool). cond u (some (Top h none (map statement before ++ (statement s ∷ [])) b)) None) (sym bare ∙ is)
-    ∙ ap (λ (ds : List PStatement). some (Top h none ds b)) (sym (declarations_put before now s made))
 
 pub branch_is : (b : Branch) → branch b ≡ (statement b.head, body b.body)
 branch_is b = search (rules, the_lemmas)

@@ -41,7 +41,7 @@ around (c.Else' p outer before branches head) b = InElse (around outer (body bef
 around (c.Loop' p outer before head) b = InLoop (around outer (body before.items)) (statement head) b
 
 abbrev pub inside : Inside → PInside
-inside i = around i.frame (body i.nodes.items)
+inside i = around i.frame.value (body i.nodes.items)
 
 abbrev pub within : List PUnit → Option Inside → POpen
 within us None = Between us

@@ -51,11 +51,11 @@ fn has_main(units: &[UnitText]) -> bool
     false
 }
 
-fn started(alloc: Global, units: Vec<UnitText>, head: Statement) -> Open
-    ensures { n.opened_so result ≡ n.started (map unit units.items) (f.statement head) }
+fn started(alloc: Global, units: Vec<UnitText>, head: Statement) -> Result<Open, Unfit>
+    ensures { n.Makes n.opened_so result (Some (n.started (map unit units.items) (f.statement head))) }
 {
-    let inside = Some(unit_opened(alloc, head));
-    Open { units, inside }
+    let inside = Some(unit_opened(alloc, head)?);
+    Ok(Open { units, inside })
 }
 
 /// A unit begins with PROGRAM, once in a file, or with SUBROUTINE.
@@ -73,7 +73,7 @@ fn begin(alloc: Global, role: Role, units: Vec<UnitText>, head: Statement) -> Re
     ensures { n.Makes n.opened_so result (n.begin role (map unit units.items) (f.statement head)) }
 {
     if may_begin(role, units.as_slice()) {
-        Ok(started(alloc, units, head))
+        started(alloc, units, head)
     } else {
         Err(Unfit::Misfit)
     }

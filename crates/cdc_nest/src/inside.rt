@@ -42,7 +42,7 @@ pub enum Frame {
 /// What is open inside a unit: the innermost body so far, and what stands around it.
 #[derive(Drop)]
 pub struct Inside {
-    pub frame: Frame,
+    pub frame: Box<Frame>,
     pub nodes: Vec<Node>,
 }
 
@@ -90,19 +90,18 @@ fn branched(
 }
 
 /// With a node at the end of the innermost body.
-fn add(open: Inside, item: Node) -> Result<Inside, Unfit>
+fn add(mut open: Inside, item: Node) -> Result<Inside, Unfit>
     ensures { n.Makes n.inside result (Some (n.add (n.inside «open») (node item))) }
 {
-    let Inside { frame, mut nodes } = open;
-    nodes.push(item)?;
-    Ok(Inside { frame, nodes })
+    open.nodes.push(item)?;
+    Ok(open)
 }
 
 /// With a block that has ended as a node at the end of the body that holds it.
 fn add_around(outer: Box<Frame>, before: Vec<Node>, item: Node) -> Result<Inside, Unfit>
     ensures { n.Makes n.inside result (Some (n.add (n.around outer.value (body before.items)) (node item))) }
 {
-    let frame = Box::into_inner(outer);
+    let frame = outer;
     let nodes = before;
     add(Inside { frame, nodes }, item)
 }
@@ -130,62 +129,55 @@ fn is_bare(none: &Option<Statement>, declarations: &[Statement], nodes: &[Node])
 }
 
 /// IMPLICIT NONE stands first in a unit, and once.
-fn implicit(open: Inside, statement: Statement) -> Result<Inside, Unfit>
+fn implicit(mut open: Inside, statement: Statement) -> Result<Inside, Unfit>
     ensures { n.Makes n.inside result (n.implicit (n.inside «open») (f.statement statement)) }
 {
-    let Inside { frame, nodes } = open;
-    match frame {
+    match &mut *open.frame {
         Frame::Unit {
-            head,
             none,
             declarations,
+            ..
         } => {
-            if !is_bare(&none, declarations.as_slice(), nodes.as_slice()) {
+            if !is_bare(none, declarations.as_slice(), open.nodes.as_slice()) {
                 return Err(Unfit::Misfit);
             }
-            let none = Some(statement);
-            let frame = Frame::Unit {
-                head,
-                none,
-                declarations,
-            };
-            Ok(Inside { frame, nodes })
+            *none = Some(statement);
+            Ok(open)
         }
         _ => Err(Unfit::Misfit),
     }
 }
 
 /// Declarations stand before the executable statements.
-fn declare(open: Inside, statement: Statement) -> Result<Inside, Unfit>
+fn declare(mut open: Inside, statement: Statement) -> Result<Inside, Unfit>
     ensures { n.Makes n.inside result (n.declare (n.inside «open») (f.statement statement)) }
 {
-    let Inside { frame, nodes } = open;
-    match frame {
-        Frame::Unit {
-            head,
-            none,
-            mut declarations,
-        } => {
-            if !is_empty(nodes.as_slice()) {
+    match &mut *open.frame {
+        Frame::Unit { declarations, .. } => {
+            if !is_empty(open.nodes.as_slice()) {
                 return Err(Unfit::Misfit);
             }
             declarations.push(statement)?;
-            let frame = Frame::Unit {
-                head,
-                none,
-                declarations,
-            };
-            Ok(Inside { frame, nodes })
+            Ok(open)
         }
         _ => Err(Unfit::Misfit),
     }
+}
+
+/// What is open where a body begins.
+fn body_begun(alloc: Global, frame: Frame) -> Result<Inside, Unfit>
+    ensures { n.Makes n.inside result (Some (n.around frame Empty)) }
+{
+    let frame = Box::new(alloc, frame)?;
+    let nodes = Vec::new(alloc);
+    Ok(Inside { frame, nodes })
 }
 
 fn else_if(alloc: Global, open: Inside, statement: Statement) -> Result<Inside, Unfit>
     ensures { n.Makes n.inside result (n.else_if (n.inside «open») (f.statement statement)) }
 {
     let Inside { frame, nodes } = open;
-    match frame {
+    match Box::into_inner(frame) {
         Frame::If {
             outer,
             before,
@@ -193,14 +185,14 @@ fn else_if(alloc: Global, open: Inside, statement: Statement) -> Result<Inside, 
             head,
         } => {
             let branches = branched(branches, head, nodes)?;
+            let head = statement;
             let frame = Frame::If {
                 outer,
                 before,
                 branches,
-                head: statement,
+                head,
             };
-            let nodes = Vec::new(alloc);
-            Ok(Inside { frame, nodes })
+            body_begun(alloc, frame)
         }
         _ => Err(Unfit::Misfit),
     }
@@ -210,7 +202,7 @@ fn otherwise(alloc: Global, open: Inside, statement: Statement) -> Result<Inside
     ensures { n.Makes n.inside result (n.otherwise (n.inside «open») (f.statement statement)) }
 {
     let Inside { frame, nodes } = open;
-    match frame {
+    match Box::into_inner(frame) {
         Frame::If {
             outer,
             before,
@@ -218,14 +210,14 @@ fn otherwise(alloc: Global, open: Inside, statement: Statement) -> Result<Inside
             head,
         } => {
             let branches = branched(branches, head, nodes)?;
+            let head = statement;
             let frame = Frame::Else {
                 outer,
                 before,
                 branches,
-                head: statement,
+                head,
             };
-            let nodes = Vec::new(alloc);
-            Ok(Inside { frame, nodes })
+            body_begun(alloc, frame)
         }
         _ => Err(Unfit::Misfit),
     }
@@ -249,7 +241,7 @@ fn end_if(open: Inside, statement: Statement) -> Result<Inside, Unfit>
     ensures { n.Makes n.inside result (n.end_if (n.inside «open») (f.statement statement)) }
 {
     let Inside { frame, nodes } = open;
-    match frame {
+    match Box::into_inner(frame) {
         Frame::If {
             outer,
             before,
@@ -284,7 +276,7 @@ fn end_loop(open: Inside, statement: Statement, end: Role) -> Result<Inside, Unf
     ensures { n.Makes n.inside result (n.end_loop (n.inside «open») (f.statement statement) end) }
 {
     let Inside { frame, nodes } = open;
-    match frame {
+    match Box::into_inner(frame) {
         Frame::Loop {
             outer,
             before,
@@ -301,41 +293,38 @@ fn end_loop(open: Inside, statement: Statement, end: Role) -> Result<Inside, Unf
 }
 
 /// A unit of which only the head was read.
-pub(crate) fn unit_opened(alloc: Global, head: Statement) -> Inside
-    ensures { n.inside result ≡ n.Top (f.statement head) None [] Empty }
+pub(crate) fn unit_opened(alloc: Global, head: Statement) -> Result<Inside, Unfit>
+    ensures { n.Makes n.inside result (Some (n.Top (f.statement head) None [] Empty)) }
 {
     let frame = Frame::Unit {
         head,
         none: None,
         declarations: Vec::new(alloc),
     };
-    let nodes = Vec::new(alloc);
-    Inside { frame, nodes }
+    body_begun(alloc, frame)
 }
 
 fn if_opened(alloc: Global, open: Inside, head: Statement) -> Result<Inside, Unfit>
     ensures { n.Makes n.inside result (Some (n.InIf (n.inside «open») BNone (f.statement head) Empty)) }
 {
     let frame = Frame::If {
-        outer: Box::new(alloc, open.frame)?,
+        outer: open.frame,
         before: open.nodes,
         branches: Vec::new(alloc),
         head,
     };
-    let nodes = Vec::new(alloc);
-    Ok(Inside { frame, nodes })
+    body_begun(alloc, frame)
 }
 
 fn loop_opened(alloc: Global, open: Inside, head: Statement) -> Result<Inside, Unfit>
     ensures { n.Makes n.inside result (Some (n.InLoop (n.inside «open») (f.statement head) Empty)) }
 {
     let frame = Frame::Loop {
-        outer: Box::new(alloc, open.frame)?,
+        outer: open.frame,
         before: open.nodes,
         head,
     };
-    let nodes = Vec::new(alloc);
-    Ok(Inside { frame, nodes })
+    body_begun(alloc, frame)
 }
 
 /// What is open after a further statement of the unit, which is no END of it.
@@ -368,7 +357,7 @@ pub(crate) fn close(open: Inside, end: Statement) -> Result<UnitText, Unfit>
     ensures { n.Makes unit result (n.close (n.inside «open») (f.statement end)) }
 {
     let Inside { frame, nodes } = open;
-    match frame {
+    match Box::into_inner(frame) {
         Frame::Unit {
             head,
             none,
