@@ -55,6 +55,10 @@ scope_of u = record {
   uses = unit_uses u;
 }
 
+-- a scope in which nothing is declared or used
+abbrev pub bare : Bool → PScope
+bare implicit = record { implicit = implicit; declarations = []; sorts = []; values = []; uses = [] }
+
 -- a scope without pointers
 abbrev pub plain_scope : Scope → PScope
 plain_scope s = record { implicit = s.implicit; declarations = map plain_declaration s.declarations; sorts = s.sorts; values = s.values; uses = s.uses }

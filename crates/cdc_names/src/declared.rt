@@ -6,22 +6,8 @@ ghost use Rattle.cdc_names.specs.Declarations.{declares, variable, parameter, de
 
 use crate::declaration::Declaration;
 use cdc_base::List;
-use cdc_tree::{Bound, Declared, Define, Form, Named, Statement, Tree};
+use cdc_tree::{Declared, Define, Form, Statement};
 use std::alloc::{AllocError, Global};
-
-fn declaration<'a>(
-    named: &'a Named,
-    bounds: &'a [Bound],
-    value: Option<&'a Tree>,
-) -> Declaration<'a>
-    ensures { plain_declaration result ≡ declares named.now (map bound bounds.now) (option_map plain (option_copied value.entry)) }
-{
-    Declaration {
-        named,
-        bounds,
-        value,
-    }
-}
 
 /// Adds an item; one that finds no memory is thrown away.
 pub fn add<T: Drop>(items: &mut List<T>, item: T) -> Result<(), AllocError>
@@ -37,7 +23,12 @@ fn variables<'a>(out: &mut List<Declaration<'a>>, items: &'a [Declared]) -> Resu
     ensures { OnOk result (map plain_declaration out.new ≡ map plain_declaration out.old ++ map variable (map declared items.now)) }
 {
     for item in items {
-        add(out, declaration(&item.name, item.bounds.as_slice(), None))?;
+        let declaration = Declaration {
+            named: &item.name,
+            bounds: item.bounds.as_slice(),
+            value: None,
+        };
+        add(out, declaration)?;
     }
     Ok(())
 }
@@ -46,7 +37,12 @@ fn parameters<'a>(out: &mut List<Declaration<'a>>, items: &'a [Define]) -> Resul
     ensures { OnOk result (map plain_declaration out.new ≡ map plain_declaration out.old ++ map parameter (map define items.now)) }
 {
     for item in items {
-        add(out, declaration(&item.name, &[], Some(&item.value)))?;
+        let declaration = Declaration {
+            named: &item.name,
+            bounds: &[],
+            value: Some(&item.value),
+        };
+        add(out, declaration)?;
     }
     Ok(())
 }
@@ -61,6 +57,19 @@ fn declared_by<'a>(out: &mut List<Declaration<'a>>, f: &'a Form) -> Result<(), A
     }
 }
 
+/// Adds the names that statements declare, in order.
+pub(crate) fn declare<'a>(
+    out: &mut List<Declaration<'a>>,
+    statements: &'a [Statement],
+) -> Result<(), AllocError>
+    ensures { OnOk result (map plain_declaration out.new ≡ map plain_declaration out.old ++ declared_in (map statement statements.now)) }
+{
+    for s in statements {
+        declared_by(out, &s.form)?;
+    }
+    Ok(())
+}
+
 /// The names that statements declare, in order.
 pub fn declarations(
     alloc: Global,
@@ -69,8 +78,6 @@ pub fn declarations(
     ensures { IfOk result (λ ds. map plain_declaration ds ≡ declared_in (map statement statements.now)) }
 {
     let mut out = List::new(alloc);
-    for s in statements {
-        declared_by(&mut out, &s.form)?;
-    }
+    declare(&mut out, statements)?;
     Ok(out)
 }

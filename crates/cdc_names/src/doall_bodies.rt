@@ -112,19 +112,13 @@ fn branches(inside: bool, bs: &[Branch]) -> Option<Place>
     best
 }
 
-fn first_inside(u: &UnitText) -> Option<Place>
-    ensures { result ≡ doall_body_in (unit u.now) }
-{
-    nodes(false, u.body.as_slice())
-}
-
 /// The first place of a statement in the body of a DOALL that is no assignment, IF or DO.
 pub fn first_doall_body(units: &[UnitText]) -> Option<Place>
     ensures { result ≡ first_of doall_body_in (map unit units.now) }
 {
     let mut best = None;
     for u in units {
-        best = sooner(best, first_inside(u));
+        best = sooner(best, nodes(false, u.body.as_slice()));
     }
     best
 }

@@ -10,17 +10,11 @@ use cdc_base::List;
 use cdc_tree::{Branch, Form, Named, Node, UnitText};
 use std::alloc::{AllocError, Global};
 
-fn label<'a>(named: &'a Named) -> Label<'a>
-    ensures { result ≡ named.now }
-{
-    Label { named }
-}
-
 fn labels<'a>(names: &mut List<Label<'a>>, more: &'a [Named]) -> Result<(), AllocError>
     ensures { OnOk result (names.new ≡ names.old ++ more.now) }
 {
     for named in more {
-        add(names, label(named))?;
+        add(names, Label { named })?;
     }
     Ok(())
 }
@@ -35,7 +29,7 @@ fn slots<'a>(
     match head {
         Form::Doall(l, privates) => {
             let mut names = List::new(alloc);
-            add(&mut names, label(&l.var))?;
+            add(&mut names, Label { named: &l.var })?;
             labels(&mut names, privates.as_slice())?;
             add(out, names)
         }
@@ -53,7 +47,7 @@ fn node<'a>(out: &mut List<List<Label<'a>>>, alloc: Global, n: &'a Node) -> Resu
             branches(out, alloc, bs.as_slice())?;
             match other {
                 None => Ok(()),
-                Some(b) => branch(out, alloc, b),
+                Some(b) => nodes(out, alloc, b.body.as_slice()),
             }
         }
         Node::Loop(head, body, _) => {
@@ -78,17 +72,6 @@ fn nodes<'a>(
 }
 
 #[cycle(lists)]
-fn branch<'a>(
-    out: &mut List<List<Label<'a>>>,
-    alloc: Global,
-    b: &'a Branch,
-) -> Result<(), AllocError>
-    ensures { OnOk result (out.new ≡ out.old ++ body_lists (branch b.now).1) }
-{
-    nodes(out, alloc, b.body.as_slice())
-}
-
-#[cycle(lists)]
 fn branches<'a>(
     out: &mut List<List<Label<'a>>>,
     alloc: Global,
@@ -97,33 +80,41 @@ fn branches<'a>(
     ensures { OnOk result (out.new ≡ out.old ++ branches_lists (branches_of (map branch bs.now))) }
 {
     for b in bs {
-        branch(out, alloc, b)?;
+        nodes(out, alloc, b.body.as_slice())?;
     }
     Ok(())
 }
 
-fn declared<'a>(alloc: Global, u: &'a UnitText) -> Result<List<Label<'a>>, AllocError>
-    ensures { IfOk result (λ ns. ns ≡ declared_names (unit u.now)) }
+fn declared<'a>(
+    alloc: Global,
+    out: &mut List<List<Label<'a>>>,
+    u: &'a UnitText,
+) -> Result<(), AllocError>
+    ensures { OnOk result (out.new ≡ out.old ++ declared_names (unit u.now) ∷ []) }
 {
     let declarations = declarations(alloc, u.declarations.as_slice())?;
     let ds = declarations.as_slice();
     let mut names = List::new(alloc);
     for d in ds {
-        add(&mut names, label(d.named))?;
+        add(&mut names, Label { named: d.named })?;
     }
-    Ok(names)
+    add(out, names)
 }
 
-fn dummies<'a>(alloc: Global, head: &'a Form) -> Result<List<Label<'a>>, AllocError>
-    ensures { IfOk result (λ ns. ns ≡ dummy_names (form head.now)) }
+fn dummies<'a>(
+    alloc: Global,
+    out: &mut List<List<Label<'a>>>,
+    head: &'a Form,
+) -> Result<(), AllocError>
+    ensures { OnOk result (out.new ≡ out.old ++ dummy_names (form head.now) ∷ []) }
 {
     match head {
         Form::Subroutine(_, dummies) => {
             let mut names = List::new(alloc);
             labels(&mut names, dummies.as_slice())?;
-            Ok(names)
+            add(out, names)
         }
-        _ => Ok(List::new(alloc)),
+        _ => add(out, List::new(alloc)),
     }
 }
 
@@ -134,10 +125,8 @@ fn unit<'a>(
 ) -> Result<(), AllocError>
     ensures { OnOk result (out.new ≡ out.old ++ unit_lists (unit u.now)) }
 {
-    let names = declared(alloc, u)?;
-    let dummies = dummies(alloc, &u.head.form)?;
-    add(out, names)?;
-    add(out, dummies)?;
+    declared(alloc, out, u)?;
+    dummies(alloc, out, &u.head.form)?;
     nodes(out, alloc, u.body.as_slice())
 }
 
@@ -145,20 +134,24 @@ fn unit_name<'a>(names: &mut List<Label<'a>>, head: &'a Form) -> Result<(), Allo
     ensures { OnOk result (names.new ≡ names.old ++ unit_name (form head.now)) }
 {
     match head {
-        Form::Program(name) => add(names, label(name)),
-        Form::Subroutine(name, _) => add(names, label(name)),
+        Form::Program(name) => add(names, Label { named: name }),
+        Form::Subroutine(name, _) => add(names, Label { named: name }),
         _ => Ok(()),
     }
 }
 
-fn head_names<'a>(alloc: Global, units: &'a [UnitText]) -> Result<List<Label<'a>>, AllocError>
-    ensures { IfOk result (λ ns. ns ≡ head_names (map unit units.now)) }
+fn head_names<'a>(
+    alloc: Global,
+    out: &mut List<List<Label<'a>>>,
+    units: &'a [UnitText],
+) -> Result<(), AllocError>
+    ensures { OnOk result (out.new ≡ out.old ++ head_names (map unit units.now) ∷ []) }
 {
     let mut names = List::new(alloc);
     for u in units {
         unit_name(&mut names, &u.head.form)?;
     }
-    Ok(names)
+    add(out, names)
 }
 
 /// The lists in which no name may stand twice.
@@ -168,9 +161,8 @@ pub fn name_lists<'a>(
 ) -> Result<List<List<Label<'a>>>, AllocError>
     ensures { IfOk result (λ ls. ls ≡ name_lists (map unit units.now)) }
 {
-    let names = head_names(alloc, units)?;
     let mut out = List::new(alloc);
-    add(&mut out, names)?;
+    head_names(alloc, &mut out, units)?;
     for u in units {
         unit(alloc, &mut out, u)?;
     }

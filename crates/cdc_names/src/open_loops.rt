@@ -40,12 +40,6 @@ impl<'a> OpenLoops<'a> {
         Ok(())
     }
 
-    fn close(&mut self)
-        ensures { self.new ≡ take (length self.old - 1) self.old }
-    {
-        self.names.pop();
-    }
-
     /// What the innermost open loop of a name uses it as.
     pub fn opened_as(&self, name: &[u8]) -> Option<Role>
         ensures { result ≡ opened_as None name.now self.now }
@@ -92,7 +86,7 @@ impl<'a> OpenLoops<'a> {
             Role::Index => self.open(name, role),
             Role::Private => self.open(name, role),
             Role::Closed => {
-                self.close();
+                self.names.pop();
                 Ok(())
             }
             _ => Ok(()),

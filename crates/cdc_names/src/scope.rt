@@ -1,14 +1,14 @@
-ghost use Rattle.std.specs.Prelude.{◌≡◌, [], map, IfOk, OnOk};
+ghost use Rattle.std.specs.Prelude.{◌≡◌, [], map, is_none, IfOk, OnOk};
 ghost use Rattle.cdc_tree.specs.Units.{unit};
 ghost use Rattle.cdc_names.specs.Declarations.{plain_declaration};
-ghost use Rattle.cdc_names.specs.Scopes.{sort_of, sorts_from, value_in, defined, known_after, values_from, scope_of, plain_scope};
+ghost use Rattle.cdc_names.specs.Scopes.{sort_of, sorts_from, value_in, known_after, values_from, bare, scope_of, plain_scope};
 
 use crate::constants::constant;
 use crate::declaration::Declaration;
-use crate::declared::{add, declarations};
+use crate::declared::{add, declare};
 use crate::name_use::NameUse;
 use crate::table::Table;
-use crate::walk::unit_uses;
+use crate::walk;
 use cdc_base::List;
 use cdc_tree::UnitText;
 use std::alloc::{AllocError, Global};
@@ -49,16 +49,6 @@ fn sort_of(d: &Declaration) -> Sort
     Sort::Array(n)
 }
 
-fn sorts<'a>(alloc: Global, ds: &[Declaration<'a>]) -> Result<Table<'a, Sort>, AllocError>
-    ensures { IfOk result (λ t. t ≡ sorts_from [] (map plain_declaration ds.now)) }
-{
-    let mut sorts = Table::new(alloc);
-    for d in ds {
-        sorts.add(d.named.name.as_slice(), sort_of(d))?;
-    }
-    Ok(sorts)
-}
-
 fn value_in(values: &Table<i64>, d: &Declaration) -> Option<i64>
     ensures { result ≡ value_in values.now (plain_declaration d.now) }
 {
@@ -68,52 +58,62 @@ fn value_in(values: &Table<i64>, d: &Declaration) -> Option<i64>
     }
 }
 
-fn define<'a>(
-    values: &mut Table<'a, i64>,
-    name: &'a [u8],
-    value: Option<i64>,
-) -> Result<(), AllocError>
-    ensures { OnOk result (values.new ≡ defined name.now value values.old) }
-{
-    match value {
-        None => Ok(()),
-        Some(x) => values.add(name, x),
-    }
-}
-
 /// Adds what a declaration makes known.
 pub fn learn<'a>(values: &mut Table<'a, i64>, d: &Declaration<'a>) -> Result<(), AllocError>
     ensures { OnOk result (values.new ≡ known_after values.old (plain_declaration d.now)) }
 {
-    let value = value_in(values, d);
-    define(values, d.named.name.as_slice(), value)
+    match value_in(values, d) {
+        None => Ok(()),
+        Some(x) => values.add(d.named.name.as_slice(), x),
+    }
 }
 
-fn values<'a>(alloc: Global, ds: &[Declaration<'a>]) -> Result<Table<'a, i64>, AllocError>
-    ensures { IfOk result (λ t. t ≡ values_from [] (map plain_declaration ds.now)) }
+fn sort_and_learn<'a>(
+    sorts: &mut Table<'a, Sort>,
+    values: &mut Table<'a, i64>,
+    ds: &[Declaration<'a>],
+) -> Result<(), AllocError>
+    ensures sorts { OnOk result (sorts.new ≡ sorts_from sorts.old (map plain_declaration ds.now)) }
+    ensures values { OnOk result (values.new ≡ values_from values.old (map plain_declaration ds.now)) }
 {
-    let mut values = Table::new(alloc);
     for d in ds {
-        learn(&mut values, d)?;
+        sorts.add(d.named.name.as_slice(), sort_of(d))?;
+        learn(values, d)?;
     }
-    Ok(values)
+    Ok(())
+}
+
+impl<'a> Scope<'a> {
+    fn new(alloc: Global, implicit: bool) -> Scope<'a>
+        ensures { plain_scope result ≡ bare implicit }
+    {
+        Scope {
+            implicit,
+            declarations: List::new(alloc),
+            sorts: Table::new(alloc),
+            values: Table::new(alloc),
+            uses: List::new(alloc),
+        }
+    }
+
+    fn fill(&mut self, u: &'a UnitText) -> Result<(), AllocError>
+        requires { plain_scope self.old ≡ bare (is_none (unit u.now).none) }
+        ensures { OnOk result (plain_scope self.new ≡ scope_of (unit u.now)) }
+    {
+        declare(&mut self.declarations, u.declarations.as_slice())?;
+        let ds = self.declarations.as_slice();
+        sort_and_learn(&mut self.sorts, &mut self.values, ds)?;
+        walk::unit(&mut self.uses, u)
+    }
 }
 
 /// What a unit declares, and its uses of names.
 pub fn scope_of(alloc: Global, u: &UnitText) -> Result<Scope<'_>, AllocError>
     ensures { IfOk result (λ s. plain_scope s ≡ scope_of (unit u.now)) }
 {
-    let declarations = declarations(alloc, u.declarations.as_slice())?;
-    let sorts = sorts(alloc, declarations.as_slice())?;
-    let values = values(alloc, declarations.as_slice())?;
-    let uses = unit_uses(alloc, u)?;
-    Ok(Scope {
-        implicit: u.none.is_none(),
-        declarations,
-        sorts,
-        values,
-        uses,
-    })
+    let mut scope = Scope::new(alloc, u.none.is_none());
+    scope.fill(u)?;
+    Ok(scope)
 }
 
 /// The scopes of all units, in order.

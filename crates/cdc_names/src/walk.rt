@@ -2,9 +2,10 @@ ghost use Rattle.std.specs.Prelude.{◌≡◌, ◌++◌, ◌∷◌, [], map, opt
 ghost use Rattle.cdc_tree.specs.Plain.{plain, plains};
 ghost use Rattle.cdc_tree.specs.Forms.{bound, declared, define, spot, loop, shown, form, statement};
 ghost use Rattle.cdc_tree.specs.Units.{node, body, branch, branches_of, unit};
+ghost use Rattle.cdc_names.specs.declared.name_use.Role.TheVariants.{Assigned, Index, Private};
 ghost use Rattle.cdc_names.specs.Places.{joined};
 ghost use Rattle.cdc_names.specs.Used.{used};
-ghost use Rattle.cdc_names.specs.Uses.{tree_uses, trees_uses, optional_uses, names_uses, spot_uses, spots_uses, actual_uses, shown_uses, bound_uses, item_uses, define_uses, control_uses, form_uses, statement_uses, statements_uses, closing_uses, node_uses, body_uses, branch_uses, branches_uses, unit_uses};
+ghost use Rattle.cdc_names.specs.Uses.{tree_uses, trees_uses, optional_uses, names_uses, spot_uses, spots_uses, actual_uses, shown_uses, bound_uses, item_uses, define_uses, control_uses, form_uses, statements_uses, closing_uses, node_uses, body_uses, branch_uses, branches_uses, unit_uses};
 
 use crate::declared::add;
 use crate::name_use::{NameUse, Role};
@@ -158,6 +159,17 @@ fn parameters<'a>(out: &mut List<NameUse<'a>>, items: &'a [Define]) -> Result<()
     Ok(())
 }
 
+fn assignment<'a>(
+    out: &mut List<NameUse<'a>>,
+    target: &'a Spot,
+    value: &'a Tree,
+) -> Result<(), AllocError>
+    ensures { OnOk result (out.new ≡ out.old ++ spot_uses Assigned (spot target.now) ++ tree_uses (plain value.now)) }
+{
+    spot(out, target, Role::Assigned)?;
+    tree(out, value)
+}
+
 fn controls<'a>(out: &mut List<NameUse<'a>>, l: &'a Loop) -> Result<(), AllocError>
     ensures { OnOk result (out.new ≡ out.old ++ control_uses (loop l.now)) }
 {
@@ -166,7 +178,24 @@ fn controls<'a>(out: &mut List<NameUse<'a>>, l: &'a Loop) -> Result<(), AllocErr
     optional(out, &l.by)
 }
 
-#[cycle(form)]
+fn counted<'a>(out: &mut List<NameUse<'a>>, l: &'a Loop, role: Role) -> Result<(), AllocError>
+    ensures { OnOk result (out.new ≡ out.old ++ used l.now.var role 0 ∷ control_uses (loop l.now)) }
+{
+    name(out, &l.var, role, 0)?;
+    controls(out, l)
+}
+
+fn doall<'a>(
+    out: &mut List<NameUse<'a>>,
+    l: &'a Loop,
+    privates: &'a [Named],
+) -> Result<(), AllocError>
+    ensures { OnOk result (out.new ≡ out.old ++ used l.now.var Index 0 ∷ control_uses (loop l.now) ++ names_uses Private privates.now) }
+{
+    counted(out, l, Role::Index)?;
+    names(out, privates, Role::Private)
+}
+
 fn form<'a>(out: &mut List<NameUse<'a>>, f: &'a Form) -> Result<(), AllocError>
     ensures { OnOk result (out.new ≡ out.old ++ form_uses (form f.now)) }
 {
@@ -174,25 +203,15 @@ fn form<'a>(out: &mut List<NameUse<'a>>, f: &'a Form) -> Result<(), AllocError>
         Form::Subroutine(_, dummies) => names(out, dummies.as_slice(), Role::Dummy),
         Form::Integer(items) => variables(out, items.as_slice()),
         Form::Parameter(items) => parameters(out, items.as_slice()),
-        Form::Assign(target, value) => {
-            spot(out, target, Role::Assigned)?;
-            tree(out, value)
-        }
+        Form::Assign(target, value) => assignment(out, target, value),
         Form::IfThen(cond) => tree(out, cond),
         Form::ElseIf(cond) => tree(out, cond),
         Form::LogicalIf(cond, s) => {
             tree(out, cond)?;
-            statement(out, s)
+            form(out, &s.form)
         }
-        Form::Do(l) => {
-            name(out, &l.var, Role::Counted, 0)?;
-            controls(out, l)
-        }
-        Form::Doall(l, privates) => {
-            name(out, &l.var, Role::Index, 0)?;
-            controls(out, l)?;
-            names(out, privates.as_slice(), Role::Private)
-        }
+        Form::Do(l) => counted(out, l, Role::Counted),
+        Form::Doall(l, privates) => doall(out, l, privates.as_slice()),
         Form::Call(_, ts) => actuals(out, ts.as_slice()),
         Form::Print(items) => shown_items(out, items.as_slice()),
         Form::Read(ss) => spots(out, ss.as_slice(), Role::Input),
@@ -200,18 +219,11 @@ fn form<'a>(out: &mut List<NameUse<'a>>, f: &'a Form) -> Result<(), AllocError>
     }
 }
 
-#[cycle(form)]
-fn statement<'a>(out: &mut List<NameUse<'a>>, s: &'a Statement) -> Result<(), AllocError>
-    ensures { OnOk result (out.new ≡ out.old ++ statement_uses (statement s.now)) }
-{
-    form(out, &s.form)
-}
-
 fn statements<'a>(out: &mut List<NameUse<'a>>, ss: &'a [Statement]) -> Result<(), AllocError>
     ensures { OnOk result (out.new ≡ out.old ++ statements_uses (map statement ss.now)) }
 {
     for s in ss {
-        statement(out, s)?;
+        form(out, &s.form)?;
     }
     Ok(())
 }
@@ -234,7 +246,7 @@ fn node<'a>(out: &mut List<NameUse<'a>>, n: &'a Node) -> Result<(), AllocError>
     ensures { OnOk result (out.new ≡ out.old ++ node_uses (node n.now)) }
 {
     match n {
-        Node::Plain(s) => statement(out, s),
+        Node::Plain(s) => form(out, &s.form),
         Node::If(bs, other, _) => {
             branches(out, bs.as_slice())?;
             match other {
@@ -243,7 +255,7 @@ fn node<'a>(out: &mut List<NameUse<'a>>, n: &'a Node) -> Result<(), AllocError>
             }
         }
         Node::Loop(head, body, _) => {
-            statement(out, head)?;
+            form(out, &head.form)?;
             nodes(out, body.as_slice())?;
             closing(out, &head.form)
         }
@@ -264,7 +276,7 @@ fn nodes<'a>(out: &mut List<NameUse<'a>>, ns: &'a [Node]) -> Result<(), AllocErr
 fn branch<'a>(out: &mut List<NameUse<'a>>, b: &'a Branch) -> Result<(), AllocError>
     ensures { OnOk result (out.new ≡ out.old ++ branch_uses (branch b.now)) }
 {
-    statement(out, &b.head)?;
+    form(out, &b.head.form)?;
     nodes(out, b.body.as_slice())
 }
 
@@ -278,13 +290,20 @@ fn branches<'a>(out: &mut List<NameUse<'a>>, bs: &'a [Branch]) -> Result<(), All
     Ok(())
 }
 
+/// Adds the uses of names in a unit.
+pub(crate) fn unit<'a>(out: &mut List<NameUse<'a>>, u: &'a UnitText) -> Result<(), AllocError>
+    ensures { OnOk result (out.new ≡ out.old ++ unit_uses (unit u.now)) }
+{
+    form(out, &u.head.form)?;
+    statements(out, u.declarations.as_slice())?;
+    nodes(out, u.body.as_slice())
+}
+
 /// The uses of names in a unit, in the order of its text.
 pub fn unit_uses(alloc: Global, u: &UnitText) -> Result<List<NameUse<'_>>, AllocError>
     ensures { IfOk result (λ us. us ≡ unit_uses (unit u.now)) }
 {
     let mut out = List::new(alloc);
-    statement(&mut out, &u.head)?;
-    statements(&mut out, u.declarations.as_slice())?;
-    nodes(&mut out, u.body.as_slice())?;
+    unit(&mut out, u)?;
     Ok(out)
 }

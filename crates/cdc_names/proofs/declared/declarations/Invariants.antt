@@ -1,7 +1,0 @@
-use Rattle.std.proofs.Common.{◌≡◌, ◌++◌, map, drop}
-use Rattle.cdc_tree.specs.Forms.{statement}
-use Rattle.cdc_names.specs.Declarations.{declared_in, plain_declaration}
-use Rattle.cdc_names.proofs.declared.declarations.Given as goal
-
-abbrev pub invariant-loop-s : goal.invariant-loop-s
-invariant-loop-s l = map plain_declaration l.out ++ declared_in (map statement (drop l.s-index l.statements)) ≡ declared_in (map statement l.statements)
