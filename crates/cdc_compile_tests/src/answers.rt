@@ -40,140 +40,280 @@ pub(crate) fn write_answer(
     }
 }
 
+/// Sources, each with its answer behind a line of hyphens.
+const ANSWERS: &str = "PROGRAM P
+N = 1 # 2
+END
+--
+refused BadByte at 2:7
+==
+PROGRAM P
+PRINT *, 'ab
+END
+--
+refused OpenText at 2:10
+==
+PROGRAM P
+NNNNNNNNNNNNNNNNNNNNNNNNNNNNNNNN = 1
+END
+--
+refused NameLong at 2:1
+==
+PROGRAM P
+N = 9223372036854775808
+END
+--
+refused NumberWide at 2:5
+==
+PROGRAM P
+!cccccccccccccccccccccccccccccccccccccccccccccccccccccccccccccccccccccccccccccccccccccccccccccccccccccccccccccccccccccccccccccccccccc
+END
+--
+refused LineLong at 2:133
+==
+PROGRAM P
+N == 1
+END
+--
+refused NotAStatement at line 2
+==
+PROGRAM P
+N = (((((((((((((((((((((((((((((((((((((((((((((((((((((((((((((((((1)))))))))))))))))))))))))))))))))))))))))))))))))))))))))))))))))
+END
+--
+refused LineLong at 2:133
+==
+PROGRAM P
+N = (((((((((((((((((((((((((((((((((((((((((((((((((((((((((((((((((1 &
+)))))))))))))))))))))))))))))))))))))))))))))))))))))))))))))))))
+END
+--
+refused Depth at line 2
+==
+PROGRAM P
+END DO
+END
+--
+refused Nesting at line 2
+==
+PROGRAM P
+X = 1
+END
+--
+refused Undeclared at 2:1
+==
+PROGRAM P
+INTEGER A, A
+END
+--
+refused Duplicate at 2:9 and 2:12
+==
+PROGRAM P
+INTEGER A(N)
+END
+--
+refused NotConstant at 2:11
+==
+PROGRAM P
+INTEGER A(2)
+A = 1
+END
+--
+refused Shape at 3:1
+==
+PROGRAM P
+DO K = 1, 2
+K = 3
+END DO
+END
+--
+refused DoVariable at 3:1
+==
+PROGRAM P
+INTEGER A(2097152), B(2097153)
+END
+--
+refused TooMany words limit 4194304
+==
+--
+refused Nesting at line 1
+==
+PROGRAM P
+X = 1
+END DO
+END
+--
+refused Nesting at line 3
+==
+PROGRAM P
+END DO
+N == 1
+END
+--
+refused NotAStatement at line 3
+==
+PROGRAM P
+N == 1
+N = #
+END
+--
+refused BadByte at 3:5
+==
+PROGRAM P
+DOALL K = 1, 2
+PRINT *, K
+END DOALL
+END
+--
+refused DoallBody at 3:1
+==
+PROGRAM P
+DOALL K = 1, 2
+N = K
+END DOALL
+END
+--
+refused NotPrivate at 3:1
+==
+PROGRAM P
+X = 1
+DOALL K = 1, 2
+CALL Q
+END DOALL
+END
+--
+refused NotAStatement at line 4
+==
+PROGRAM P
+N = 1
+IF (N == 1) CALL Q
+CALL Q
+END
+--
+refused NotAStatement at line 3
+==
+PROGRAM P
+N = 1
+END
+SUBROUTINE S
+CALL S
+END
+--
+refused NotAStatement at line 4
+==
+PROGRAM P
+DOALL K = 1, 2
+END DO
+END
+--
+refused Nesting at line 3
+==
+PROGRAM ONE
+N = 2 + 3
+PRINT *, N + 1
+END
+--
+1 1 1 2 0
+==
+PROGRAM P
+END
+--
+1 0 0 0 0
+==
+PROGRAM P
+INTEGER A(3, 2:5), B
+B = A(1, 2)
+DO K = 1, 2
+A(K, 3) = B + K
+END DO
+END
+--
+1 3 14 9 0
+==
+PROGRAM P
+READ *, I, J
+IF (I < J .AND. I > 0) PRINT *, 'low', I
+END
+--
+1 2 2 6 0
+==
+PROGRAM P
+INTEGER, PARAMETER :: M = 4
+INTEGER A(M)
+A(M) = M
+END
+--
+1 1 4 1 0
+==
+PROGRAM C
+INTEGER A(10)
+DOALL I = 1, 9
+A(I) = A(I + 1)
+END DOALL
+END
+--
+refused Conflict at 4:8 and 4:1
+==
+PROGRAM C
+INTEGER A(19)
+DOALL I = 1, 9
+A(2*I) = A(2*I + 1)
+END DOALL
+END
+--
+1 2 20 2 1
+==
+PROGRAM S
+INTEGER A(10:129)
+DOALL I = 1, 10 PRIVATE(J)
+DO J = 0, 9
+A(10*I + J) = I
+END DO
+END DOALL
+END
+--
+1 3 122 1 1
+==
+PROGRAM S
+INTEGER A(10:129)
+DOALL I = 1, 10 PRIVATE(J)
+DO J = 0, 10
+A(10*I + J) = I
+END DO
+END DOALL
+END
+--
+refused Conflict at 5:1 and 5:1
+==
+PROGRAM G
+INTEGER A(4), IDX(4)
+DOALL I = 1, 4
+A(IDX(I)) = I
+END DOALL
+END
+--
+refused Conflict at 4:1 and 4:1
+==
+PROGRAM P
+INTEGER A(4)
+DOALL I = 1, 4
+A(I) = I
+END DOALL
+DOALL I = 1, 4
+A(1) = I
+END DOALL
+DOALL I = 1, 4
+A(2) = I
+END DOALL
+END
+--
+refused Conflict at 7:1 and 7:1
+";
+
 #[test]
 fn sources_are_answered(rt: HostRuntime) -> Result<(), Fail> {
-    let cases: [(&str, &str); 36] = [
-        ("PROGRAM P\nN = 1 # 2\nEND\n", "refused BadByte at 2:7\n"),
-        (
-            "PROGRAM P\nPRINT *, 'ab\nEND\n",
-            "refused OpenText at 2:10\n",
-        ),
-        (
-            "PROGRAM P\nNNNNNNNNNNNNNNNNNNNNNNNNNNNNNNNN = 1\nEND\n",
-            "refused NameLong at 2:1\n",
-        ),
-        (
-            "PROGRAM P\nN = 9223372036854775808\nEND\n",
-            "refused NumberWide at 2:5\n",
-        ),
-        (
-            "PROGRAM P\n!cccccccccccccccccccccccccccccccccccccccccccccccccccccccccccccccccccccccccccccccccccccccccccccccccccccccccccccccccccccccccccccccccccc\nEND\n",
-            "refused LineLong at 2:133\n",
-        ),
-        (
-            "PROGRAM P\nN == 1\nEND\n",
-            "refused NotAStatement at line 2\n",
-        ),
-        (
-            "PROGRAM P\nN = (((((((((((((((((((((((((((((((((((((((((((((((((((((((((((((((((1)))))))))))))))))))))))))))))))))))))))))))))))))))))))))))))))))\nEND\n",
-            "refused LineLong at 2:133\n",
-        ),
-        (
-            "PROGRAM P\nN = (((((((((((((((((((((((((((((((((((((((((((((((((((((((((((((((((1 &\n)))))))))))))))))))))))))))))))))))))))))))))))))))))))))))))))))\nEND\n",
-            "refused Depth at line 2\n",
-        ),
-        ("PROGRAM P\nEND DO\nEND\n", "refused Nesting at line 2\n"),
-        ("PROGRAM P\nX = 1\nEND\n", "refused Undeclared at 2:1\n"),
-        (
-            "PROGRAM P\nINTEGER A, A\nEND\n",
-            "refused Duplicate at 2:9 and 2:12\n",
-        ),
-        (
-            "PROGRAM P\nINTEGER A(N)\nEND\n",
-            "refused NotConstant at 2:11\n",
-        ),
-        (
-            "PROGRAM P\nINTEGER A(2)\nA = 1\nEND\n",
-            "refused Shape at 3:1\n",
-        ),
-        (
-            "PROGRAM P\nDO K = 1, 2\nK = 3\nEND DO\nEND\n",
-            "refused DoVariable at 3:1\n",
-        ),
-        (
-            "PROGRAM P\nINTEGER A(2097152), B(2097153)\nEND\n",
-            "refused TooMany words limit 4194304\n",
-        ),
-        ("", "refused Nesting at line 1\n"),
-        (
-            "PROGRAM P\nX = 1\nEND DO\nEND\n",
-            "refused Nesting at line 3\n",
-        ),
-        (
-            "PROGRAM P\nEND DO\nN == 1\nEND\n",
-            "refused NotAStatement at line 3\n",
-        ),
-        (
-            "PROGRAM P\nN == 1\nN = #\nEND\n",
-            "refused BadByte at 3:5\n",
-        ),
-        (
-            "PROGRAM P\nDOALL K = 1, 2\nPRINT *, K\nEND DOALL\nEND\n",
-            "refused DoallBody at 3:1\n",
-        ),
-        (
-            "PROGRAM P\nDOALL K = 1, 2\nN = K\nEND DOALL\nEND\n",
-            "refused NotPrivate at 3:1\n",
-        ),
-        (
-            "PROGRAM P\nX = 1\nDOALL K = 1, 2\nCALL Q\nEND DOALL\nEND\n",
-            "refused NotAStatement at line 4\n",
-        ),
-        (
-            "PROGRAM P\nN = 1\nIF (N == 1) CALL Q\nCALL Q\nEND\n",
-            "refused NotAStatement at line 3\n",
-        ),
-        (
-            "PROGRAM P\nN = 1\nEND\nSUBROUTINE S\nCALL S\nEND\n",
-            "refused NotAStatement at line 4\n",
-        ),
-        (
-            "PROGRAM P\nDOALL K = 1, 2\nEND DO\nEND\n",
-            "refused Nesting at line 3\n",
-        ),
-        (
-            "PROGRAM ONE\nN = 2 + 3\nPRINT *, N + 1\nEND\n",
-            "1 1 1 2 0\n",
-        ),
-        ("PROGRAM P\nEND\n", "1 0 0 0 0\n"),
-        (
-            "PROGRAM P\nINTEGER A(3, 2:5), B\nB = A(1, 2)\nDO K = 1, 2\nA(K, 3) = B + K\nEND DO\nEND\n",
-            "1 3 14 9 0\n",
-        ),
-        (
-            "PROGRAM P\nREAD *, I, J\nIF (I < J .AND. I > 0) PRINT *, 'low', I\nEND\n",
-            "1 2 2 6 0\n",
-        ),
-        (
-            "PROGRAM P\nINTEGER, PARAMETER :: M = 4\nINTEGER A(M)\nA(M) = M\nEND\n",
-            "1 1 4 1 0\n",
-        ),
-        (
-            "PROGRAM C\nINTEGER A(10)\nDOALL I = 1, 9\nA(I) = A(I + 1)\nEND DOALL\nEND\n",
-            "refused Conflict at 4:8 and 4:1\n",
-        ),
-        (
-            "PROGRAM C\nINTEGER A(19)\nDOALL I = 1, 9\nA(2*I) = A(2*I + 1)\nEND DOALL\nEND\n",
-            "1 2 20 2 1\n",
-        ),
-        (
-            "PROGRAM S\nINTEGER A(10:129)\nDOALL I = 1, 10 PRIVATE(J)\nDO J = 0, 9\nA(10*I + J) = I\nEND DO\nEND DOALL\nEND\n",
-            "1 3 122 1 1\n",
-        ),
-        (
-            "PROGRAM S\nINTEGER A(10:129)\nDOALL I = 1, 10 PRIVATE(J)\nDO J = 0, 10\nA(10*I + J) = I\nEND DO\nEND DOALL\nEND\n",
-            "refused Conflict at 5:1 and 5:1\n",
-        ),
-        (
-            "PROGRAM G\nINTEGER A(4), IDX(4)\nDOALL I = 1, 4\nA(IDX(I)) = I\nEND DOALL\nEND\n",
-            "refused Conflict at 4:1 and 4:1\n",
-        ),
-        (
-            "PROGRAM P\nINTEGER A(4)\nDOALL I = 1, 4\nA(I) = I\nEND DOALL\nDOALL I = 1, 4\nA(1) = I\nEND DOALL\nDOALL I = 1, 4\nA(2) = I\nEND DOALL\nEND\n",
-            "refused Conflict at 7:1 and 7:1\n",
-        ),
-    ];
-    for (source, text) in cases {
+    for case in ANSWERS.split("==\n") {
+        let (source, text) = case.split_once("--\n").unwrap_or((case, ""));
         let mut sink = MemSink::new(rt.alloc(), 100, Vec::new(rt.alloc()))?;
         assert_eq!(rt;
             write_answer(rt.alloc(), source.as_bytes(), &mut sink),

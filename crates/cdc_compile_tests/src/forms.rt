@@ -11,110 +11,193 @@ const BARE: &str = "1 0 0 0 0\n";
 const NO_STATEMENT: &str = "refused NotAStatement at line 2\n";
 
 /// Lines of a program that are no statements.
-const NO_STATEMENTS: [&str; 20] = [
-    "N = - - 1",
-    "N = 2 * -1",
-    "N = 1 < 2",
-    "N = (1 < 2)",
-    "N = MOD(1)",
-    "N = ABS(1, 2)",
-    "N = MIN(1)",
-    "N = A()",
-    "N = ABS",
-    "N = 'A'",
-    "IF (1) THEN",
-    "IF (1 < 2 < 3) THEN",
-    "IF (.NOT. .NOT. 1 < 2) N = 1",
-    "IF (1 < .NOT. 2 < 3) N = 1",
-    "IF (1 < 2) IF (1 < 2) N = 1",
-    "IF = 1",
-    "PRINT *, 1 < 2",
-    "PRINT 1",
-    "READ *, 1",
-    "INTEGER A(1::2)",
-];
+const NO_STATEMENTS: &str = "N = - - 1
+N = 2 * -1
+N = 1 < 2
+N = (1 < 2)
+N = MOD(1)
+N = ABS(1, 2)
+N = MIN(1)
+N = A()
+N = ABS
+N = 'A'
+IF (1) THEN
+IF (1 < 2 < 3) THEN
+IF (.NOT. .NOT. 1 < 2) N = 1
+IF (1 < .NOT. 2 < 3) N = 1
+IF (1 < 2) IF (1 < 2) N = 1
+IF = 1
+PRINT *, 1 < 2
+PRINT 1
+READ *, 1
+INTEGER A(1::2)
+";
 
-/// Sources, and what is answered.
-const SOURCES: [(&str, &str); 24] = [
-    ("PROGRAM P\nEND PROGRAM P\n", BARE),
-    ("PROGRAM P\nEND PROGRAM\n", BARE),
-    (
-        "PROGRAM P\nPRINT *, -1 - 2, +2*3, (1 + 2)*3, MIN(1, 2, 3) - ABS(-1), MOD(7, 2), 'a''b'\nEND\n",
-        BARE,
-    ),
-    (
-        "PROGRAM P\nIF ((1) < (2)) PRINT *\nIF ((1 < 2)) READ *\nIF (.NOT. (1 < 2 .OR. 1 > 2) .AND. .NOT. 1 + 1 == 3) PRINT *\nEND\n",
-        BARE,
-    ),
-    (
-        "PROGRAM P\nIMPLICIT NONE\nINTEGER :: I, A(0:1)\nDO I = 0, 1, 1\nIF (I < 1) THEN\nELSE IF (I < 2) THEN\nA(I) = 1\nELSEIF (I < 3) THEN\nELSE\nEND IF\nENDDO\nEND\n",
-        "1 2 3 8 0\n",
-    ),
-    ("PROGRAM P\n", "refused Nesting at line 1\n"),
-    ("N = 1\n", "refused Nesting at line 1\n"),
-    ("PROGRAM P\nEND PROGRAM Q\n", "refused Nesting at line 2\n"),
-    (
-        "PROGRAM P\nEND SUBROUTINE P\n",
-        "refused Nesting at line 2\n",
-    ),
-    (
-        "SUBROUTINE S\nEND PROGRAM S\nPROGRAM P\nEND\n",
-        "refused Nesting at line 2\n",
-    ),
-    ("SUBROUTINE S\nEND\n", "refused Nesting at line 2\n"),
-    (
-        "PROGRAM P\nEND\nPROGRAM Q\nEND\n",
-        "refused Nesting at line 3\n",
-    ),
-    (
-        "PROGRAM P\nIMPLICIT NONE\nIMPLICIT NONE\nEND\n",
-        "refused Nesting at line 3\n",
-    ),
-    (
-        "PROGRAM P\nINTEGER A\nIMPLICIT NONE\nEND\n",
-        "refused Nesting at line 3\n",
-    ),
-    (
-        "PROGRAM P\nN = 1\nIMPLICIT NONE\nEND\n",
-        "refused Nesting at line 3\n",
-    ),
-    (
-        "PROGRAM P\nN = 1\nINTEGER A\nEND\n",
-        "refused Nesting at line 3\n",
-    ),
-    (
-        "PROGRAM P\nIF (1 < 2) THEN\nINTEGER A\nEND IF\nEND\n",
-        "refused Nesting at line 3\n",
-    ),
-    (
-        "PROGRAM P\nIF (1 < 2) THEN\nELSE\nELSE\nEND IF\nEND\n",
-        "refused Nesting at line 4\n",
-    ),
-    (
-        "PROGRAM P\nIF (1 < 2) THEN\nELSE\nELSE IF (1 < 2) THEN\nEND IF\nEND\n",
-        "refused Nesting at line 4\n",
-    ),
-    (
-        "PROGRAM P\nDO K = 1, 2\nEND DOALL\nEND\n",
-        "refused Nesting at line 3\n",
-    ),
-    (
-        "PROGRAM P\nDO K = 1, 2\nEND IF\nEND\n",
-        "refused Nesting at line 3\n",
-    ),
-    (
-        "PROGRAM P\nIF (1 < 2) THEN\nDO K = 1, 2\nELSE\nEND DO\nEND IF\nEND\n",
-        "refused Nesting at line 4\n",
-    ),
-    (
-        "PROGRAM P\nDO K = 1, 2\nEND\n",
-        "refused Nesting at line 3\n",
-    ),
-    (
-        "PROGRAM P; DO K = 1, 2; END; END DO\n",
-        "refused Nesting at line 1\n",
-    ),
-];
+/// Sources, each with what is answered behind a line of hyphens.
+const SOURCES: &str = "PROGRAM P
+END PROGRAM P
+--
+1 0 0 0 0
+==
+PROGRAM P
+END PROGRAM
+--
+1 0 0 0 0
+==
+PROGRAM P
+PRINT *, -1 - 2, +2*3, (1 + 2)*3, MIN(1, 2, 3) - ABS(-1), MOD(7, 2), 'a''b'
+END
+--
+1 0 0 0 0
+==
+PROGRAM P
+IF ((1) < (2)) PRINT *
+IF ((1 < 2)) READ *
+IF (.NOT. (1 < 2 .OR. 1 > 2) .AND. .NOT. 1 + 1 == 3) PRINT *
+END
+--
+1 0 0 0 0
+==
+PROGRAM P
+IMPLICIT NONE
+INTEGER :: I, A(0:1)
+DO I = 0, 1, 1
+IF (I < 1) THEN
+ELSE IF (I < 2) THEN
+A(I) = 1
+ELSEIF (I < 3) THEN
+ELSE
+END IF
+ENDDO
+END
+--
+1 2 3 8 0
+==
+PROGRAM P
+--
+refused Nesting at line 1
+==
+N = 1
+--
+refused Nesting at line 1
+==
+PROGRAM P
+END PROGRAM Q
+--
+refused Nesting at line 2
+==
+PROGRAM P
+END SUBROUTINE P
+--
+refused Nesting at line 2
+==
+SUBROUTINE S
+END PROGRAM S
+PROGRAM P
+END
+--
+refused Nesting at line 2
+==
+SUBROUTINE S
+END
+--
+refused Nesting at line 2
+==
+PROGRAM P
+END
+PROGRAM Q
+END
+--
+refused Nesting at line 3
+==
+PROGRAM P
+IMPLICIT NONE
+IMPLICIT NONE
+END
+--
+refused Nesting at line 3
+==
+PROGRAM P
+INTEGER A
+IMPLICIT NONE
+END
+--
+refused Nesting at line 3
+==
+PROGRAM P
+N = 1
+IMPLICIT NONE
+END
+--
+refused Nesting at line 3
+==
+PROGRAM P
+N = 1
+INTEGER A
+END
+--
+refused Nesting at line 3
+==
+PROGRAM P
+IF (1 < 2) THEN
+INTEGER A
+END IF
+END
+--
+refused Nesting at line 3
+==
+PROGRAM P
+IF (1 < 2) THEN
+ELSE
+ELSE
+END IF
+END
+--
+refused Nesting at line 4
+==
+PROGRAM P
+IF (1 < 2) THEN
+ELSE
+ELSE IF (1 < 2) THEN
+END IF
+END
+--
+refused Nesting at line 4
+==
+PROGRAM P
+DO K = 1, 2
+END DOALL
+END
+--
+refused Nesting at line 3
+==
+PROGRAM P
+DO K = 1, 2
+END IF
+END
+--
+refused Nesting at line 3
+==
+PROGRAM P
+IF (1 < 2) THEN
+DO K = 1, 2
+ELSE
+END DO
+END IF
+END
+--
+refused Nesting at line 4
+==
+PROGRAM P
+DO K = 1, 2
+END
+--
+refused Nesting at line 3
+==
+PROGRAM P; DO K = 1, 2; END; END DO
+--
+refused Nesting at line 1
+";
 
 /// What is answered for a source, at most 100 bytes.
 fn answer(alloc: Global, source: &str) -> Result<MemSink, Fail> {
@@ -142,12 +225,13 @@ pub(crate) fn repeated(
 
 #[test]
 fn forms_are_answered(rt: HostRuntime) -> Result<(), Fail> {
-    for line in NO_STATEMENTS {
+    for line in NO_STATEMENTS.lines() {
         let source = format!(in rt.alloc(); "PROGRAM P\n{line}\nEND\n")?;
         let sink = answer(rt.alloc(), source.as_str())?;
         assert_eq!(rt; sink.bytes(), NO_STATEMENT.as_bytes(), "{line}");
     }
-    for (source, want) in SOURCES {
+    for case in SOURCES.split("==\n") {
+        let (source, want) = case.split_once("--\n").unwrap_or((case, ""));
         let sink = answer(rt.alloc(), source)?;
         assert_eq!(rt; sink.bytes(), want.as_bytes(), "{source}");
     }

@@ -54,138 +54,332 @@ fn answer(alloc: Global, source: &[u8]) -> Result<String, Fail>
                 rest = after;
             }
         }
-        Err(refusal) => write_refusal(&mut out, refusal)?,
+        Err(refusal) => {
+            write_refusal(&mut out, refusal)?;
+            out.push('\n')?;
+        }
     }
     Ok(out)
 }
 
-#[test]
-fn reads_tokens_and_lines(rt: HostRuntime) -> Result<(), Fail> {
-    let cases: [(&[u8], &str); 34] = [
-        (b"", ""),
-        (b"\n \t! only a comment \x00\xFF\r\x7F\n", ""),
-        (b"Program t\nEnd", "1: PROGRAM@1:1 T@1:9\n2: END@2:1\n"),
-        (
-            b"N = 1\r\nM = 2\r\n",
-            "1: N@1:1 Assign@1:3 1@1:5\n2: M@2:1 Assign@2:3 2@2:5\n",
-        ),
-        (b"\tN\t=1", "1: N@1:2 Assign@1:4 1@1:5\n"),
-        (b"a_1B2c aZ_9", "1: A_1B2C@1:1 AZ_9@1:8\n"),
-        (
-            b"abcdefghijklmnopqrstuvwxyz_0123",
-            "1: ABCDEFGHIJKLMNOPQRSTUVWXYZ_0123@1:1\n",
-        ),
-        (b"1A 2_", "BadByte 1:5"),
-        (
-            b"007 0 9223372036854775807",
-            "1: 7@1:1 0@1:5 9223372036854775807@1:7\n",
-        ),
-        (
-            b"00000000000000000000009223372036854775807",
-            "1: 9223372036854775807@1:1\n",
-        ),
-        (
-            b"( ) , : :: = + - * /",
-            "1: LeftParen@1:1 RightParen@1:3 Comma@1:5 Colon@1:7 DoubleColon@1:9 Assign@1:12 Plus@1:14 Minus@1:16 Star@1:18 Slash@1:20\n",
-        ),
-        (
-            b"== /= < <= > >=",
-            "1: Eq@1:1 Ne@1:4 Lt@1:7 Le@1:9 Gt@1:12 Ge@1:14\n",
-        ),
-        (
-            b".EQ. .ne. .Lt. .lE. .GT. .ge.",
-            "1: Eq@1:1 Ne@1:6 Lt@1:11 Le@1:16 Gt@1:21 Ge@1:26\n",
-        ),
-        (
-            b".NOT. .and. .Or. .nOt.",
-            "1: Not@1:1 And@1:7 Or@1:13 Not@1:18\n",
-        ),
-        (b"===", "1: Eq@1:1 Assign@1:3\n"),
-        (b":::", "1: DoubleColon@1:1 Colon@1:3\n"),
-        (b"<==>=/=", "1: Le@1:1 Assign@1:3 Ge@1:4 Ne@1:6\n"),
-        (b"//=< =", "1: Slash@1:1 Ne@1:2 Lt@1:4 Assign@1:6\n"),
-        (b"1.eq.2.NOT.3", "1: 1@1:1 Eq@1:2 2@1:6 Not@1:7 3@1:12\n"),
-        (b"'it''s' \"\"", "1: 'it's'@1:1 ''@1:9\n"),
-        (b"'' '''' ''''''", "1: ''@1:1 '''@1:4 ''''@1:9\n"),
-        (b"\"a\"\"b'\" 'c\"'", "1: 'a\"b''@1:1 'c\"'@1:9\n"),
-        (
-            b"'a!b' 'c;d' '&\t~'",
-            "1: 'a!b'@1:1 'c;d'@1:7 '&\t~'@1:13\n",
-        ),
-        (b"'a'\"b\"", "1: 'a'@1:1 'b'@1:4\n"),
-        (
-            b"N=1;;M=2 ! x;y",
-            "1: N@1:1 Assign@1:2 1@1:3\n1: M@1:6 Assign@1:7 2@1:8\n",
-        ),
-        (b" ; ;\n;", ""),
-        (b"N = &\n  1\nM", "1: N@1:1 Assign@1:3 1@2:3\n3: M@3:1\n"),
-        (
-            b"N = & ! c\n\n ! c\n \t& 1 & \r\n+ 2",
-            "1: N@1:1 Assign@1:3 1@4:5 Plus@5:1 2@5:3\n",
-        ),
-        (b"N &\n&&\n& ! c\n= 1", "1: N@1:1 Assign@4:1 1@4:3\n"),
-        (b"&\n\n N", "3: N@3:2\n"),
-        (
-            b"N = &\n; M = 1",
-            "1: N@1:1 Assign@1:3\n2: M@2:3 Assign@2:5 1@2:7\n",
-        ),
-        (b"N = 1 &", "1: N@1:1 Assign@1:3 1@1:5\n"),
-        (b"N = 1 &\n! c\n \n", "1: N@1:1 Assign@1:3 1@1:5\n"),
-        (b"A;B&\n;C", "1: A@1:1\n1: B@1:3\n2: C@2:2\n"),
-    ];
-    for (source, want) in cases {
-        assert!(rt; source.len() <= 262144);
-        assert_eq!(rt; answer(rt.alloc(), source)?.as_str(), want, "at {source:?}");
-    }
-    Ok(())
-}
+// Sources, each with its logical lines and the places of their tokens behind a line of hyphens; between two sources stands a
+// line of two percent signs. The answer of a source that is refused is its refusal.
+const READ: &str = "
+--
+%%
+Program t
+End
+--
+1: PROGRAM@1:1 T@1:9
+2: END@2:1
+%%
+N = 1\r
+M = 2\r
+
+--
+1: N@1:1 Assign@1:3 1@1:5
+2: M@2:1 Assign@2:3 2@2:5
+%%
+\tN\t=1
+--
+1: N@1:2 Assign@1:4 1@1:5
+%%
+a_1B2c aZ_9
+--
+1: A_1B2C@1:1 AZ_9@1:8
+%%
+abcdefghijklmnopqrstuvwxyz_0123
+--
+1: ABCDEFGHIJKLMNOPQRSTUVWXYZ_0123@1:1
+%%
+1A 2_
+--
+BadByte 1:5
+%%
+007 0 9223372036854775807
+--
+1: 7@1:1 0@1:5 9223372036854775807@1:7
+%%
+00000000000000000000009223372036854775807
+--
+1: 9223372036854775807@1:1
+%%
+( ) , : :: = + - * /
+--
+1: LeftParen@1:1 RightParen@1:3 Comma@1:5 Colon@1:7 DoubleColon@1:9 Assign@1:12 Plus@1:14 Minus@1:16 Star@1:18 Slash@1:20
+%%
+== /= < <= > >=
+--
+1: Eq@1:1 Ne@1:4 Lt@1:7 Le@1:9 Gt@1:12 Ge@1:14
+%%
+.EQ. .ne. .Lt. .lE. .GT. .ge.
+--
+1: Eq@1:1 Ne@1:6 Lt@1:11 Le@1:16 Gt@1:21 Ge@1:26
+%%
+.NOT. .and. .Or. .nOt.
+--
+1: Not@1:1 And@1:7 Or@1:13 Not@1:18
+%%
+===
+--
+1: Eq@1:1 Assign@1:3
+%%
+:::
+--
+1: DoubleColon@1:1 Colon@1:3
+%%
+<==>=/=
+--
+1: Le@1:1 Assign@1:3 Ge@1:4 Ne@1:6
+%%
+//=< =
+--
+1: Slash@1:1 Ne@1:2 Lt@1:4 Assign@1:6
+%%
+1.eq.2.NOT.3
+--
+1: 1@1:1 Eq@1:2 2@1:6 Not@1:7 3@1:12
+%%
+'it''s' \"\"
+--
+1: 'it's'@1:1 ''@1:9
+%%
+'' '''' ''''''
+--
+1: ''@1:1 '''@1:4 ''''@1:9
+%%
+\"a\"\"b'\" 'c\"'
+--
+1: 'a\"b''@1:1 'c\"'@1:9
+%%
+'a!b' 'c;d' '&\t~'
+--
+1: 'a!b'@1:1 'c;d'@1:7 '&\t~'@1:13
+%%
+'a'\"b\"
+--
+1: 'a'@1:1 'b'@1:4
+%%
+N=1;;M=2 ! x;y
+--
+1: N@1:1 Assign@1:2 1@1:3
+1: M@1:6 Assign@1:7 2@1:8
+%%
+ ; ;
+;
+--
+%%
+N = &
+  1
+M
+--
+1: N@1:1 Assign@1:3 1@2:3
+3: M@3:1
+%%
+N = & ! c
+
+ ! c
+ \t& 1 & \r
++ 2
+--
+1: N@1:1 Assign@1:3 1@4:5 Plus@5:1 2@5:3
+%%
+N &
+&&
+& ! c
+= 1
+--
+1: N@1:1 Assign@4:1 1@4:3
+%%
+&
+
+ N
+--
+3: N@3:2
+%%
+N = &
+; M = 1
+--
+1: N@1:1 Assign@1:3
+2: M@2:3 Assign@2:5 1@2:7
+%%
+N = 1 &
+--
+1: N@1:1 Assign@1:3 1@1:5
+%%
+N = 1 &
+! c
+ 
+
+--
+1: N@1:1 Assign@1:3 1@1:5
+%%
+A;B&
+;C
+--
+1: A@1:1
+1: B@1:3
+2: C@2:2
+";
+
+// Sources of which the first fault is told.
+const REFUSED: &str = "PROGRAM T
+N = 1 # 2
+END
+
+--
+BadByte 2:7
+%%
+PROGRAM T
+PRINT *, 'ab
+END
+
+--
+OpenText 2:10
+%%
+PROGRAM T
+NNNNNNNNNNNNNNNNNNNNNNNNNNNNNNNN = 1
+
+--
+NameLong 2:1
+%%
+PROGRAM T
+N = 9223372036854775808
+
+--
+NumberWide 2:5
+%%
+PROGRAM T
+N = (((((((((((((((((((((((((((((((((((((((((((((((((((((((((((((((((1)))))))))))))))))))))))))))))))))))))))))))))))))))))))))))))))))
+
+--
+LineLong 2:133
+%%
+N = 99999999999999999999999999999999999999999999
+--
+NumberWide 1:5
+%%
+N = 1 # 2 # 3
+--
+BadByte 1:7
+%%
+N # 'ab
+--
+BadByte 1:3
+%%
+N 'ab #
+--
+OpenText 1:3
+%%
+N = 1 ! # 'ab
+#
+--
+BadByte 2:1
+%%
+N = 1.5
+--
+BadByte 1:6
+%%
+.EQ
+--
+BadByte 1:1
+%%
+N .NOT 1
+--
+BadByte 1:3
+%%
+.TRUE.
+--
+BadByte 1:1
+%%
+_A
+--
+BadByte 1:1
+%%
+N\r= 1
+--
+BadByte 1:2
+%%
+N = 1\r
+--
+BadByte 1:6
+%%
+N = 1\r\r
+
+--
+BadByte 1:6
+%%
+N\x00
+--
+BadByte 1:2
+%%
+N\x7F
+--
+BadByte 1:2
+%%
+'a\x01b'
+--
+BadByte 1:3
+%%
+'a\x7F\r'
+--
+BadByte 1:3
+%%
+'a\x01b
+--
+OpenText 1:1
+%%
+\"a'
+--
+OpenText 1:1
+%%
+'a''
+--
+OpenText 1:1
+%%
+'a
+'
+--
+OpenText 1:1
+%%
+& N
+--
+BadByte 1:1
+%%
+N & M
+--
+BadByte 1:3
+%%
+N &
+& & M
+--
+BadByte 2:3
+%%
+N &
+M
+& = 1
+--
+BadByte 3:1
+";
+
+// Sources with bytes that are no ASCII characters.
+const OTHER_BYTES: [(&[u8], &str); 3] = [
+    (b"\n \t! only a comment \x00\xFF\r\x7F\n", ""),
+    (b"N\xC3", "BadByte 1:2\n"),
+    (b"'a\xFF' #", "BadByte 1:3\n"),
+];
 
 #[test]
-fn refuses_the_first_fault(rt: HostRuntime) -> Result<(), Fail> {
-    let cases: [(&[u8], &str); 32] = [
-        (b"PROGRAM T\nN = 1 # 2\nEND\n", "BadByte 2:7"),
-        (b"PROGRAM T\nPRINT *, 'ab\nEND\n", "OpenText 2:10"),
-        (
-            b"PROGRAM T\nNNNNNNNNNNNNNNNNNNNNNNNNNNNNNNNN = 1\n",
-            "NameLong 2:1",
-        ),
-        (b"PROGRAM T\nN = 9223372036854775808\n", "NumberWide 2:5"),
-        (
-            b"PROGRAM T\nN = (((((((((((((((((((((((((((((((((((((((((((((((((((((((((((((((((1)))))))))))))))))))))))))))))))))))))))))))))))))))))))))))))))))\n",
-            "LineLong 2:133",
-        ),
-        (
-            b"N = 99999999999999999999999999999999999999999999",
-            "NumberWide 1:5",
-        ),
-        (b"N = 1 # 2 # 3", "BadByte 1:7"),
-        (b"N # 'ab", "BadByte 1:3"),
-        (b"N 'ab #", "OpenText 1:3"),
-        (b"N = 1 ! # 'ab\n#", "BadByte 2:1"),
-        (b"N = 1.5", "BadByte 1:6"),
-        (b".EQ", "BadByte 1:1"),
-        (b"N .NOT 1", "BadByte 1:3"),
-        (b".TRUE.", "BadByte 1:1"),
-        (b"_A", "BadByte 1:1"),
-        (b"N\r= 1", "BadByte 1:2"),
-        (b"N = 1\r", "BadByte 1:6"),
-        (b"N = 1\r\r\n", "BadByte 1:6"),
-        (b"N\x00", "BadByte 1:2"),
-        (b"N\x7F", "BadByte 1:2"),
-        (b"N\xC3", "BadByte 1:2"),
-        (b"'a\x01b'", "BadByte 1:3"),
-        (b"'a\xFF' #", "BadByte 1:3"),
-        (b"'a\x7F\r'", "BadByte 1:3"),
-        (b"'a\x01b", "OpenText 1:1"),
-        (b"\"a'", "OpenText 1:1"),
-        (b"'a''", "OpenText 1:1"),
-        (b"'a\n'", "OpenText 1:1"),
-        (b"& N", "BadByte 1:1"),
-        (b"N & M", "BadByte 1:3"),
-        (b"N &\n& & M", "BadByte 2:3"),
-        (b"N &\nM\n& = 1", "BadByte 3:1"),
-    ];
-    for (source, want) in cases {
+fn reads_tokens_and_lines(rt: HostRuntime) -> Result<(), Fail> {
+    for cases in [READ, REFUSED] {
+        for case in cases.split("%%\n") {
+            let (source, want) = case.split_once("\n--\n").unwrap_or((case, ""));
+            assert!(rt; source.len() <= 262144);
+            let got = answer(rt.alloc(), source.as_bytes())?;
+            assert_eq!(rt; got.as_str(), want, "at {source:?}");
+        }
+    }
+    for (source, want) in OTHER_BYTES {
         assert!(rt; source.len() <= 262144);
         assert_eq!(rt; answer(rt.alloc(), source)?.as_str(), want, "at {source:?}");
     }

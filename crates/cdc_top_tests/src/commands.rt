@@ -5,6 +5,7 @@ use cdc_base::{CountSink, MemSink, MemStore, PlainStore};
 use cdc_top::run_tool;
 use std::alloc::Global;
 use std::fmt::Write;
+use std::str::from_utf8;
 use std::test::Fail;
 
 pub(crate) const ONE: &str = "PROGRAM ONE\nN = 2 + 3\nPRINT *, N + 1\nEND\n";
@@ -215,227 +216,382 @@ pub(crate) fn one_file(alloc: Global, program: Vec<u8>) -> Result<Vec<(String, V
 
 // A program of these lines between PROGRAM and END.
 pub(crate) fn program_of(alloc: Global, between: &str) -> Result<Vec<u8>, Fail> {
-    let source = format!(in alloc; "PROGRAM P\n{between}\nEND\n")?;
+    let source = format!(in alloc; "PROGRAM P\n{between}END\n")?;
     Ok(source.into_bytes())
 }
 
-// Programs with the lines of their input; then the rules of the language, a line each.
+// The cases of a table stand between lines of equals signs, and the parts of a case between lines of hyphens: the lines between
+// PROGRAM and END, the input, and the status with what is printed.
+
+// Programs with the lines of their input.
+const PRINTED: &str = "PRINT *, MOD(-7, 3), -7 / 2, 7 / (-2), -2 * 3
+K = -9223372036854775807 - 1
+PRINT *, K
+PRINT *, ABS(K)
+--
+--
+1
+-1 -3 -3 -6
+-9223372036854775808
+= end fault overflow at line 5
+==
+DO K = 9223372036854775806, 9223372036854775807
+PRINT *, K
+END DO
+--
+--
+1
+9223372036854775806
+9223372036854775807
+= end fault overflow at line 2
+==
+READ *, I, J
+READ *, K
+PRINT *, I, J, K
+READ *, L
+--
+1
+2 99
+3, 4
+--
+1
+1 2 3
+= end fault input ended at line 5
+==
+READ *, I, J
+READ *, K
+PRINT *, I, J, K
+READ *, L
+--
+1 ,, 2
+--
+4
+refused input at 1:4
+==
+X = 1
+--
+x--
+3
+refused Undeclared at 2:1
+==
+N = 1
+--
+--
+0
+= end done
+==
+PRINT *
+--
+--
+0
+
+= end done
+==
+PRINT *, 'a b', 1, \"it's\", '', 'don''t'
+--
+--
+0
+a b 1 it's  don't
+= end done
+==
+N = 3
+PRINT *, -N * 2, 2 - N - 4, MIN(N, 1, 2), MAX(1, N, 2), ABS(-4)
+--
+--
+0
+-6 -5 1 3 4
+= end done
+==
+INTEGER A(-1:1)
+A(-1) = 5
+A(1) = 6
+PRINT *, A(-1), A(0), A(1)
+--
+--
+0
+5 0 6
+= end done
+";
+
+// What is evaluated first faults first.
+const FIRST_FAULTS: &str = "INTEGER A(2)
+A(3) = 1 / 0
+--
+--
+1
+= end fault subscript at line 3
+==
+INTEGER A(2, 2)
+A(3, 1 / 0) = 1
+--
+--
+1
+= end fault zero divisor at line 3
+==
+N = 9223372036854775807 + 1 + 1 / 0
+--
+--
+1
+= end fault overflow at line 2
+==
+N = MOD(1, 0) + (9223372036854775807 + 1)
+--
+--
+1
+= end fault zero divisor at line 2
+==
+IF (1 == 2 .AND. 1 / 0 == 1) N = 1
+--
+--
+1
+= end fault zero divisor at line 2
+==
+IF (1 == 1 .OR. 1 / 0 == 1) N = 1
+--
+--
+1
+= end fault zero divisor at line 2
+==
+IF (1 == 2) THEN
+ELSE IF (1 / 0 == 1) THEN
+END IF
+--
+--
+1
+= end fault zero divisor at line 3
+==
+IF (.NOT. 1 < 2 .OR. 2 >= 2 .AND. 1 /= 2) PRINT *, 'y'
+N = 5
+IF (N < 3) THEN
+PRINT *, 'low'
+ELSE IF (N < 6) THEN
+PRINT *, 'mid'
+ELSE
+PRINT *, 'high'
+END IF
+--
+--
+0
+y
+mid
+= end done
+";
+
+// Loops.
+const LOOPS: &str = "DO K = 1, 2, 0
+END DO
+--
+--
+1
+= end fault zero step at line 2
+==
+DO K = 2, 1
+PRINT *, K
+END DO
+PRINT *, K
+--
+--
+0
+2
+= end done
+==
+DO K = 3, 1, -1
+PRINT *, K
+END DO
+DO K = 1, 6, 2
+END DO
+PRINT *, K
+--
+--
+0
+3
+2
+1
+7
+= end done
+==
+DO I = 1, 2
+DO J = I, 2
+PRINT *, I, J
+END DO
+END DO
+PRINT *, I, J
+--
+--
+0
+1 1
+1 2
+2 2
+3 3
+= end done
+==
+N = 2
+DO K = 1, N
+N = 5
+END DO
+PRINT *, K, N
+--
+--
+0
+3 5
+= end done
+";
+
+// DOALL.
+const DOALLS: &str = "INTEGER A(4), B(4)
+DOALL I = 1, 4
+A(I) = A(I) + I
+END DOALL
+DOALL I = 1, 3
+B(I) = A(I + 1)
+END DOALL
+PRINT *, B(1), B(2), B(3)
+--
+--
+0
+2 3 4
+= end done
+==
+INTEGER A(4)
+I = 8
+J = 9
+DOALL I = I - 4, J - 8, -1 PRIVATE(J)
+A(I) = J
+J = I
+END DOALL
+PRINT *, A(1), A(4), I, J
+--
+--
+0
+0 0 8 9
+= end done
+==
+DOALL I = 1, 1048577
+END DOALL
+--
+--
+1
+= end fault trip too large at line 2
+==
+DOALL I = 1, 2, 0
+END DOALL
+--
+--
+1
+= end fault zero step at line 2
+==
+INTEGER A(4)
+PRINT *, 'a'
+DOALL I = 1, 4
+IF (I == 2) A(I + 9) = 1
+IF (I == 4) A(I) = 9223372036854775807 + I
+END DOALL
+--
+--
+1
+a
+= end fault subscript at line 5
+";
+
+// Records.
+const RECORDS: &str = "READ *, I, J, K
+PRINT *, K, J, I
+READ *
+READ *, I
+PRINT *, I
+--
+1\r
+
+2,
++03 4
+5
+ 6--
+0
+3 2 1
+6
+= end done
+==
+INTEGER A(3)
+READ *, I, A(I)
+PRINT *, A(2), A(3)
+--
+2 9--
+0
+9 0
+= end done
+==
+INTEGER A(2)
+READ *, A(3)
+--
+--
+1
+= end fault subscript at line 3
+==
+READ *
+--
+--
+1
+= end fault input ended at line 2
+";
+
+// A fault within a line.
+const WITHIN_A_LINE: &str = "PRINT *, 7, 1 / 0
+--
+--
+1
+7
+= end fault zero divisor at line 2
+==
+PRINT *, 'a', '', 1 / 0
+--
+--
+1
+a 
+= end fault zero divisor at line 2
+==
+PRINT *, 'a'
+PRINT *, '', 1 / 0
+--
+--
+1
+a
+= end fault zero divisor at line 3
+==
+PRINT *, '', 1 / 0
+--
+--
+1
+= end fault zero divisor at line 2
+";
+
+// The status in a line, and what is printed.
+pub(crate) fn answered(alloc: Global, status: u8, sink: &MemSink) -> Result<String, Fail> {
+    Ok(format!(in alloc; "{status}\n{}", from_utf8(sink.bytes())?)?)
+}
+
+// What `seq` answers for a program of these lines and an input.
+fn carried_out(alloc: Global, between: &str, input: &str) -> Result<String, Fail> {
+    let words = split_words(alloc, SEQ)?;
+    let mut files = one_file(alloc, program_of(alloc, between)?)?;
+    files.push((
+        String::from_str(alloc, "one.in")?,
+        input.as_bytes().to_vec(alloc)?,
+    ))?;
+    let mut store = PlainStore::new(files);
+    let mut sink = MemSink::new(alloc, 1000, Vec::new(alloc))?;
+    let status = run_tool(alloc, &words, &mut store, &mut sink);
+    answered(alloc, status, &sink)
+}
+
 #[test]
 fn programs_are_carried_out(rt: HostRuntime) -> Result<(), Fail> {
-    let words = split_words(rt.alloc(), SEQ)?;
-    for (between, input, status, text) in [
-        (
-            "PRINT *, MOD(-7, 3), -7 / 2, 7 / (-2), -2 * 3\nK = -9223372036854775807 - 1\nPRINT *, K\nPRINT *, ABS(K)",
-            "",
-            1,
-            "-1 -3 -3 -6\n-9223372036854775808\n= end fault overflow at line 5\n",
-        ),
-        (
-            "DO K = 9223372036854775806, 9223372036854775807\nPRINT *, K\nEND DO",
-            "",
-            1,
-            "9223372036854775806\n9223372036854775807\n= end fault overflow at line 2\n",
-        ),
-        (
-            "READ *, I, J\nREAD *, K\nPRINT *, I, J, K\nREAD *, L",
-            "1\n2 99\n3, 4\n",
-            1,
-            "1 2 3\n= end fault input ended at line 5\n",
-        ),
-        (
-            "READ *, I, J\nREAD *, K\nPRINT *, I, J, K\nREAD *, L",
-            "1 ,, 2\n",
-            4,
-            "refused input at 1:4\n",
-        ),
-        ("X = 1", "x", 3, "refused Undeclared at 2:1\n"),
-        ("N = 1", "", 0, "= end done\n"),
-        ("PRINT *", "", 0, "\n= end done\n"),
-        (
-            "PRINT *, 'a b', 1, \"it's\", '', 'don''t'",
-            "",
-            0,
-            "a b 1 it's  don't\n= end done\n",
-        ),
-        (
-            "N = 3\nPRINT *, -N * 2, 2 - N - 4, MIN(N, 1, 2), MAX(1, N, 2), ABS(-4)",
-            "",
-            0,
-            "-6 -5 1 3 4\n= end done\n",
-        ),
-        (
-            "INTEGER A(-1:1)\nA(-1) = 5\nA(1) = 6\nPRINT *, A(-1), A(0), A(1)",
-            "",
-            0,
-            "5 0 6\n= end done\n",
-        ),
-        // What is evaluated first faults first.
-        (
-            "INTEGER A(2)\nA(3) = 1 / 0",
-            "",
-            1,
-            "= end fault subscript at line 3\n",
-        ),
-        (
-            "INTEGER A(2, 2)\nA(3, 1 / 0) = 1",
-            "",
-            1,
-            "= end fault zero divisor at line 3\n",
-        ),
-        (
-            "N = 9223372036854775807 + 1 + 1 / 0",
-            "",
-            1,
-            "= end fault overflow at line 2\n",
-        ),
-        (
-            "N = MOD(1, 0) + (9223372036854775807 + 1)",
-            "",
-            1,
-            "= end fault zero divisor at line 2\n",
-        ),
-        (
-            "IF (1 == 2 .AND. 1 / 0 == 1) N = 1",
-            "",
-            1,
-            "= end fault zero divisor at line 2\n",
-        ),
-        (
-            "IF (1 == 1 .OR. 1 / 0 == 1) N = 1",
-            "",
-            1,
-            "= end fault zero divisor at line 2\n",
-        ),
-        (
-            "IF (1 == 2) THEN\nELSE IF (1 / 0 == 1) THEN\nEND IF",
-            "",
-            1,
-            "= end fault zero divisor at line 3\n",
-        ),
-        (
-            "IF (.NOT. 1 < 2 .OR. 2 >= 2 .AND. 1 /= 2) PRINT *, 'y'\nN = 5\nIF (N < 3) THEN\nPRINT *, 'low'\nELSE IF (N < 6) THEN\nPRINT *, 'mid'\nELSE\nPRINT *, 'high'\nEND IF",
-            "",
-            0,
-            "y\nmid\n= end done\n",
-        ),
-        // Loops.
-        (
-            "DO K = 1, 2, 0\nEND DO",
-            "",
-            1,
-            "= end fault zero step at line 2\n",
-        ),
-        (
-            "DO K = 2, 1\nPRINT *, K\nEND DO\nPRINT *, K",
-            "",
-            0,
-            "2\n= end done\n",
-        ),
-        (
-            "DO K = 3, 1, -1\nPRINT *, K\nEND DO\nDO K = 1, 6, 2\nEND DO\nPRINT *, K",
-            "",
-            0,
-            "3\n2\n1\n7\n= end done\n",
-        ),
-        (
-            "DO I = 1, 2\nDO J = I, 2\nPRINT *, I, J\nEND DO\nEND DO\nPRINT *, I, J",
-            "",
-            0,
-            "1 1\n1 2\n2 2\n3 3\n= end done\n",
-        ),
-        (
-            "N = 2\nDO K = 1, N\nN = 5\nEND DO\nPRINT *, K, N",
-            "",
-            0,
-            "3 5\n= end done\n",
-        ),
-        // DOALL.
-        (
-            "INTEGER A(4), B(4)\nDOALL I = 1, 4\nA(I) = A(I) + I\nEND DOALL\nDOALL I = 1, 3\nB(I) = A(I + 1)\nEND DOALL\nPRINT *, B(1), B(2), B(3)",
-            "",
-            0,
-            "2 3 4\n= end done\n",
-        ),
-        (
-            "INTEGER A(4)\nI = 8\nJ = 9\nDOALL I = I - 4, J - 8, -1 PRIVATE(J)\nA(I) = J\nJ = I\nEND DOALL\nPRINT *, A(1), A(4), I, J",
-            "",
-            0,
-            "0 0 8 9\n= end done\n",
-        ),
-        (
-            "DOALL I = 1, 1048577\nEND DOALL",
-            "",
-            1,
-            "= end fault trip too large at line 2\n",
-        ),
-        (
-            "DOALL I = 1, 2, 0\nEND DOALL",
-            "",
-            1,
-            "= end fault zero step at line 2\n",
-        ),
-        (
-            "INTEGER A(4)\nPRINT *, 'a'\nDOALL I = 1, 4\nIF (I == 2) A(I + 9) = 1\nIF (I == 4) A(I) = 9223372036854775807 + I\nEND DOALL",
-            "",
-            1,
-            "a\n= end fault subscript at line 5\n",
-        ),
-        // Records.
-        (
-            "READ *, I, J, K\nPRINT *, K, J, I\nREAD *\nREAD *, I\nPRINT *, I",
-            "1\r\n\n2,\n+03 4\n5\n 6",
-            0,
-            "3 2 1\n6\n= end done\n",
-        ),
-        (
-            "INTEGER A(3)\nREAD *, I, A(I)\nPRINT *, A(2), A(3)",
-            "2 9",
-            0,
-            "9 0\n= end done\n",
-        ),
-        (
-            "INTEGER A(2)\nREAD *, A(3)",
-            "",
-            1,
-            "= end fault subscript at line 3\n",
-        ),
-        ("READ *", "", 1, "= end fault input ended at line 2\n"),
-        // A fault within a line.
-        (
-            "PRINT *, 7, 1 / 0",
-            "",
-            1,
-            "7\n= end fault zero divisor at line 2\n",
-        ),
-        (
-            "PRINT *, 'a', '', 1 / 0",
-            "",
-            1,
-            "a \n= end fault zero divisor at line 2\n",
-        ),
-        (
-            "PRINT *, 'a'\nPRINT *, '', 1 / 0",
-            "",
-            1,
-            "a\n= end fault zero divisor at line 3\n",
-        ),
-        (
-            "PRINT *, '', 1 / 0",
-            "",
-            1,
-            "= end fault zero divisor at line 2\n",
-        ),
-    ] {
-        let mut files = one_file(rt.alloc(), program_of(rt.alloc(), between)?)?;
-        files.push((
-            String::from_str(rt.alloc(), "one.in")?,
-            input.as_bytes().to_vec(rt.alloc())?,
-        ))?;
-        let mut store = PlainStore::new(files);
-        let mut sink = MemSink::new(rt.alloc(), 1000, Vec::new(rt.alloc()))?;
-        let got = run_tool(rt.alloc(), &words, &mut store, &mut sink);
-        assert_eq!(rt; got, status, "{text}");
-        assert_eq!(rt; sink.bytes(), text.as_bytes(), "{text}");
+    for cases in [PRINTED, FIRST_FAULTS, LOOPS, DOALLS, RECORDS, WITHIN_A_LINE] {
+        for case in cases.split("==\n") {
+            let (between, rest) = case.split_once("--\n").unwrap_or((case, ""));
+            let (input, want) = rest.split_once("--\n").unwrap_or((rest, ""));
+            let got = carried_out(rt.alloc(), between, input)?;
+            assert_eq!(rt; got.as_str(), want, "{between}");
+        }
     }
     Ok(())
 }

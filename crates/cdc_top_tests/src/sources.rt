@@ -1,7 +1,7 @@
 //! The commands over a source alone: `check`, `marks` and `code`.
 
 use crate::commands::{
-    ACCEPTED, CHECK, CODE, LISTED, MARKED, MARKS, ONE, one_file, program_of, split_words,
+    ACCEPTED, CHECK, CODE, LISTED, MARKED, MARKS, ONE, answered, one_file, program_of, split_words,
 };
 use cdc_base::{MemSink, PlainStore};
 use cdc_top::run_tool;
@@ -21,207 +21,325 @@ const FAR: &str =
 const FAR_MARKS: &str =
     "site 1 write A at 4:1\nsite 2 write K at 6:4\nsite 3 read K at 7:5 ordinary\nsite 4 read K at 7:33 ordinary\nsite 5 read A at 7:22 time 1\nsite 6 read K at 6:4 ordinary\nsite 7 write K at 6:4\ndoall 1 line 3 entry writes none\ndoall 1 line 3 exit writes FAR.A\n";
 
-// Each refusal once; then two at once, of which the first kind is told; then further places of a kind, and accepted lines.
+// Each refusal once; then two at once, of which the first kind is told; then further places of a kind, and accepted lines. Behind
+// the lines between PROGRAM and END stand the status and what is printed.
+const CHECKED: &str = "N = 1 # 2
+--
+3
+refused BadByte at 2:7
+==
+PRINT *, 'ab
+--
+3
+refused OpenText at 2:10
+==
+NNNNNNNNNNNNNNNNNNNNNNNNNNNNNNNN = 1
+--
+3
+refused NameLong at 2:1
+==
+N = 9223372036854775808
+--
+3
+refused NumberWide at 2:5
+==
+!cccccccccccccccccccccccccccccccccccccccccccccccccccccccccccccccccccccccccccccccccccccccccccccccccccccccccccccccccccccccccccccccccccc
+--
+3
+refused LineLong at 2:133
+==
+N == 1
+--
+3
+refused NotAStatement at line 2
+==
+N = (((((((((((((((((((((((((((((((((((((((((((((((((((((((((((((((((1)))))))))))))))))))))))))))))))))))))))))))))))))))))))))))))))))
+--
+3
+refused LineLong at 2:133
+==
+N = (((((((((((((((((((((((((((((((((((((((((((((((((((((((((((((((((1 &
+)))))))))))))))))))))))))))))))))))))))))))))))))))))))))))))))))
+--
+3
+refused Depth at line 2
+==
+END DO
+--
+3
+refused Nesting at line 2
+==
+X = 1
+--
+3
+refused Undeclared at 2:1
+==
+INTEGER A, A
+--
+3
+refused Duplicate at 2:9 and 2:12
+==
+INTEGER A(N)
+--
+3
+refused NotConstant at 2:11
+==
+INTEGER A(2)
+A = 1
+--
+3
+refused Shape at 3:1
+==
+DO K = 1, 2
+K = 3
+END DO
+--
+3
+refused DoVariable at 3:1
+==
+INTEGER A(2097152), B(2097153)
+--
+3
+refused TooMany words limit 4194304
+==
+DOALL K = 1, 2
+PRINT *, K
+END DOALL
+--
+3
+refused DoallBody at 3:1
+==
+DOALL K = 1, 2
+N = K
+END DOALL
+--
+3
+refused NotPrivate at 3:1
+==
+INTEGER A(10)
+DOALL I = 1, 9
+A(I) = A(I + 1)
+END DOALL
+--
+3
+refused Conflict at 4:8 and 4:1
+==
+N = 1
+IF (N == 1) CALL Q
+--
+3
+refused NotAStatement at line 3
+==
+DOALL K = 1, 2
+IF (K == 1) PRINT *, K
+END DOALL
+--
+3
+refused DoallBody at 3:13
+==
+DOALL K = 1, 2
+DOALL J = 1, 2
+END DOALL
+END DOALL
+--
+3
+refused DoallBody at 3:1
+==
+DOALL K = 1, 2 PRIVATE(J)
+DO L = 1, 2
+END DO
+END DOALL
+--
+3
+refused NotPrivate at 3:4
+==
+DOALL K = 1, 2
+K = 3
+END DOALL
+--
+3
+refused NotPrivate at 3:1
+==
+DOALL K = 1, 2 PRIVATE(K)
+END DOALL
+--
+3
+refused Duplicate at 2:7 and 2:24
+==
+INTEGER A, A
+X = 1
+--
+3
+refused Undeclared at 3:1
+==
+INTEGER A(N), B, B
+--
+3
+refused Duplicate at 2:15 and 2:18
+==
+INTEGER A(2), B(N)
+A = 1
+--
+3
+refused NotConstant at 2:17
+==
+INTEGER A(2)
+DO K = 1, 2
+K = 3
+END DO
+A = 1
+--
+3
+refused Shape at 6:1
+==
+INTEGER A(4194305)
+DO K = 1, 2
+K = 3
+END DO
+--
+3
+refused DoVariable at 4:1
+==
+INTEGER A, B, A, B, A
+--
+3
+refused Duplicate at 2:9 and 2:15
+==
+IMPLICIT NONE
+INTEGER A(K), B(X)
+--
+3
+refused Undeclared at 3:11
+==
+INTEGER, PARAMETER :: P = 1, Q = P + R
+--
+3
+refused Undeclared at 2:38
+==
+INTEGER, PARAMETER :: P = 1 / 0
+--
+3
+refused NotConstant at 2:27
+==
+INTEGER, PARAMETER :: P = 9223372036854775807 + 1
+--
+3
+refused NotConstant at 2:27
+==
+INTEGER A(P)
+INTEGER, PARAMETER :: P = 2
+--
+3
+refused NotConstant at 2:11
+==
+INTEGER A(1, 2, 3, 4)
+--
+3
+refused Shape at 2:9
+==
+INTEGER A(2:1)
+--
+3
+refused Shape at 2:9
+==
+INTEGER A(2, 3)
+A(1) = 1
+--
+3
+refused Shape at 3:1
+==
+N(1) = 1
+--
+3
+refused Shape at 2:1
+==
+INTEGER, PARAMETER :: P = 2
+P = 1
+--
+3
+refused Shape at 3:1
+==
+INTEGER A(3)
+DO A = 1, 2
+END DO
+--
+3
+refused Shape at 3:4
+==
+DO K = 1, 2
+DO J = 1, 2
+READ *, L, K
+END DO
+END DO
+--
+3
+refused DoVariable at 4:12
+==
+DO K = 1, 2
+DO K = 1, 2
+END DO
+END DO
+--
+3
+refused DoVariable at 3:4
+==
+INTEGER A(2097152), B(2097152)
+--
+0
+accepted units 1 objects 2 words 4194304 sites 0 doalls 0
+==
+INTEGER A(1:1)
+A(1) = A(1)
+--
+0
+accepted units 1 objects 1 words 1 sites 2 doalls 0
+==
+DO K = 1, 2
+END DO
+K = 1
+--
+0
+accepted units 1 objects 1 words 1 sites 4 doalls 0
+==
+INTEGER A(19)
+DOALL I = 1, 9
+A(2*I) = A(2*I + 1)
+END DOALL
+--
+0
+accepted units 1 objects 2 words 20 sites 2 doalls 1
+==
+INTEGER A(10:129)
+DOALL I = 1, 10 PRIVATE(J)
+DO J = 0, 9
+A(10*I + J) = I
+END DO
+END DOALL
+--
+0
+accepted units 1 objects 3 words 122 sites 1 doalls 1
+==
+INTEGER, PARAMETER :: P = MOD(-7, 3), Q = -7 / 2, R = MIN(5, 4, 6)
+INTEGER A(P:Q + 3), B(R)
+--
+0
+accepted units 1 objects 2 words 6 sites 0 doalls 0
+";
+
 #[test]
 fn programs_are_checked(rt: HostRuntime) -> Result<(), Fail> {
     let words = split_words(rt.alloc(), CHECK)?;
-    for (between, status, text) in [
-        ("N = 1 # 2", 3, "refused BadByte at 2:7\n"),
-        ("PRINT *, 'ab", 3, "refused OpenText at 2:10\n"),
-        (
-            "NNNNNNNNNNNNNNNNNNNNNNNNNNNNNNNN = 1",
-            3,
-            "refused NameLong at 2:1\n",
-        ),
-        ("N = 9223372036854775808", 3, "refused NumberWide at 2:5\n"),
-        (
-            "!cccccccccccccccccccccccccccccccccccccccccccccccccccccccccccccccccccccccccccccccccccccccccccccccccccccccccccccccccccccccccccccccccccc",
-            3,
-            "refused LineLong at 2:133\n",
-        ),
-        ("N == 1", 3, "refused NotAStatement at line 2\n"),
-        (
-            "N = (((((((((((((((((((((((((((((((((((((((((((((((((((((((((((((((((1)))))))))))))))))))))))))))))))))))))))))))))))))))))))))))))))))",
-            3,
-            "refused LineLong at 2:133\n",
-        ),
-        (
-            "N = (((((((((((((((((((((((((((((((((((((((((((((((((((((((((((((((((1 &\n)))))))))))))))))))))))))))))))))))))))))))))))))))))))))))))))))",
-            3,
-            "refused Depth at line 2\n",
-        ),
-        ("END DO", 3, "refused Nesting at line 2\n"),
-        ("X = 1", 3, "refused Undeclared at 2:1\n"),
-        ("INTEGER A, A", 3, "refused Duplicate at 2:9 and 2:12\n"),
-        ("INTEGER A(N)", 3, "refused NotConstant at 2:11\n"),
-        ("INTEGER A(2)\nA = 1", 3, "refused Shape at 3:1\n"),
-        (
-            "DO K = 1, 2\nK = 3\nEND DO",
-            3,
-            "refused DoVariable at 3:1\n",
-        ),
-        (
-            "INTEGER A(2097152), B(2097153)",
-            3,
-            "refused TooMany words limit 4194304\n",
-        ),
-        (
-            "DOALL K = 1, 2\nPRINT *, K\nEND DOALL",
-            3,
-            "refused DoallBody at 3:1\n",
-        ),
-        (
-            "DOALL K = 1, 2\nN = K\nEND DOALL",
-            3,
-            "refused NotPrivate at 3:1\n",
-        ),
-        (
-            "INTEGER A(10)\nDOALL I = 1, 9\nA(I) = A(I + 1)\nEND DOALL",
-            3,
-            "refused Conflict at 4:8 and 4:1\n",
-        ),
-        (
-            "N = 1\nIF (N == 1) CALL Q",
-            3,
-            "refused NotAStatement at line 3\n",
-        ),
-        (
-            "DOALL K = 1, 2\nIF (K == 1) PRINT *, K\nEND DOALL",
-            3,
-            "refused DoallBody at 3:13\n",
-        ),
-        (
-            "DOALL K = 1, 2\nDOALL J = 1, 2\nEND DOALL\nEND DOALL",
-            3,
-            "refused DoallBody at 3:1\n",
-        ),
-        (
-            "DOALL K = 1, 2 PRIVATE(J)\nDO L = 1, 2\nEND DO\nEND DOALL",
-            3,
-            "refused NotPrivate at 3:4\n",
-        ),
-        (
-            "DOALL K = 1, 2\nK = 3\nEND DOALL",
-            3,
-            "refused NotPrivate at 3:1\n",
-        ),
-        (
-            "DOALL K = 1, 2 PRIVATE(K)\nEND DOALL",
-            3,
-            "refused Duplicate at 2:7 and 2:24\n",
-        ),
-        ("INTEGER A, A\nX = 1", 3, "refused Undeclared at 3:1\n"),
-        (
-            "INTEGER A(N), B, B",
-            3,
-            "refused Duplicate at 2:15 and 2:18\n",
-        ),
-        (
-            "INTEGER A(2), B(N)\nA = 1",
-            3,
-            "refused NotConstant at 2:17\n",
-        ),
-        (
-            "INTEGER A(2)\nDO K = 1, 2\nK = 3\nEND DO\nA = 1",
-            3,
-            "refused Shape at 6:1\n",
-        ),
-        (
-            "INTEGER A(4194305)\nDO K = 1, 2\nK = 3\nEND DO",
-            3,
-            "refused DoVariable at 4:1\n",
-        ),
-        (
-            "INTEGER A, B, A, B, A",
-            3,
-            "refused Duplicate at 2:9 and 2:15\n",
-        ),
-        (
-            "IMPLICIT NONE\nINTEGER A(K), B(X)",
-            3,
-            "refused Undeclared at 3:11\n",
-        ),
-        (
-            "INTEGER, PARAMETER :: P = 1, Q = P + R",
-            3,
-            "refused Undeclared at 2:38\n",
-        ),
-        (
-            "INTEGER, PARAMETER :: P = 1 / 0",
-            3,
-            "refused NotConstant at 2:27\n",
-        ),
-        (
-            "INTEGER, PARAMETER :: P = 9223372036854775807 + 1",
-            3,
-            "refused NotConstant at 2:27\n",
-        ),
-        (
-            "INTEGER A(P)\nINTEGER, PARAMETER :: P = 2",
-            3,
-            "refused NotConstant at 2:11\n",
-        ),
-        ("INTEGER A(1, 2, 3, 4)", 3, "refused Shape at 2:9\n"),
-        ("INTEGER A(2:1)", 3, "refused Shape at 2:9\n"),
-        ("INTEGER A(2, 3)\nA(1) = 1", 3, "refused Shape at 3:1\n"),
-        ("N(1) = 1", 3, "refused Shape at 2:1\n"),
-        (
-            "INTEGER, PARAMETER :: P = 2\nP = 1",
-            3,
-            "refused Shape at 3:1\n",
-        ),
-        (
-            "INTEGER A(3)\nDO A = 1, 2\nEND DO",
-            3,
-            "refused Shape at 3:4\n",
-        ),
-        (
-            "DO K = 1, 2\nDO J = 1, 2\nREAD *, L, K\nEND DO\nEND DO",
-            3,
-            "refused DoVariable at 4:12\n",
-        ),
-        (
-            "DO K = 1, 2\nDO K = 1, 2\nEND DO\nEND DO",
-            3,
-            "refused DoVariable at 3:4\n",
-        ),
-        (
-            "INTEGER A(2097152), B(2097152)",
-            0,
-            "accepted units 1 objects 2 words 4194304 sites 0 doalls 0\n",
-        ),
-        (
-            "INTEGER A(1:1)\nA(1) = A(1)",
-            0,
-            "accepted units 1 objects 1 words 1 sites 2 doalls 0\n",
-        ),
-        (
-            "DO K = 1, 2\nEND DO\nK = 1",
-            0,
-            "accepted units 1 objects 1 words 1 sites 4 doalls 0\n",
-        ),
-        (
-            "INTEGER A(19)\nDOALL I = 1, 9\nA(2*I) = A(2*I + 1)\nEND DOALL",
-            0,
-            "accepted units 1 objects 2 words 20 sites 2 doalls 1\n",
-        ),
-        (
-            "INTEGER A(10:129)\nDOALL I = 1, 10 PRIVATE(J)\nDO J = 0, 9\nA(10*I + J) = I\nEND DO\nEND DOALL",
-            0,
-            "accepted units 1 objects 3 words 122 sites 1 doalls 1\n",
-        ),
-        (
-            "INTEGER, PARAMETER :: P = MOD(-7, 3), Q = -7 / 2, R = MIN(5, 4, 6)\nINTEGER A(P:Q + 3), B(R)",
-            0,
-            "accepted units 1 objects 2 words 6 sites 0 doalls 0\n",
-        ),
-    ] {
+    for case in CHECKED.split("==\n") {
+        let (between, want) = case.split_once("--\n").unwrap_or((case, ""));
         let program = program_of(rt.alloc(), between)?;
         let mut store = PlainStore::new(one_file(rt.alloc(), program)?);
         let mut sink = MemSink::new(rt.alloc(), 1000, Vec::new(rt.alloc()))?;
         let got = run_tool(rt.alloc(), &words, &mut store, &mut sink);
-        assert_eq!(rt; got, status, "{text}");
-        assert_eq!(rt; sink.bytes(), text.as_bytes(), "{text}");
+        assert_eq!(rt;
+            answered(rt.alloc(), got, &sink)?.as_str(),
+            want,
+            "{between}"
+        );
     }
     Ok(())
 }
