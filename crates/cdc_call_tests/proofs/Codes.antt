@@ -1,4 +1,4 @@
--- The codes of the tests are sound.
+-- The code of the test is sound.
 use Rattle.std.proofs.Common.{◌≡◌, ◌⊎◌, inl, inr, ℕ, zero, suc, ◌≤◌, [], ◌∷◌, refl, sym, subst, ◌∙◌, arith, rules}
 use Rattle.std.specs.List.{Any}
 use Rattle.cdc_prog.specs.declared.expr.Var.{Var}
@@ -10,13 +10,13 @@ use Rattle.cdc_prog.specs.Units.{body_of, process_of}
 use Rattle.cdc_prog.specs.Uses.{Uses, ItemMentions}
 use Rattle.cdc_prog.specs.Premises.{IsUnaliased}
 use Rattle.cdc_prog.specs.Apart.{IsApart}
-use Rattle.cdc_prog.specs.Examples.{one, largest}
+use Rattle.cdc_prog.specs.Examples.{one}
 use Rattle.cdc_code.specs.declared.room.TheConstants.{STACK, NEST, ARGUMENTS}
 use Rattle.cdc_code.specs.declared.code.Code.{Code}
 use Rattle.cdc_code.specs.Examples.{unmarked}
 use Rattle.cdc_code.specs.Room.{SlotsRoom, StmtRoom}
 use Rattle.cdc_code.specs.Sound.{IsSound}
-use Rattle.cdc_prog.proofs.Examples.{one_resolved, largest_resolved}
+use Rattle.cdc_prog.proofs.Examples.{one_resolved}
 use Rattle.cdc_code.proofs.Alone.{code_is_sound}
 
 -- no reference is marked
@@ -32,7 +32,7 @@ any_one P x (suc k, y, lt, e, h) = absurd (omega (arith, lt))
 unaliased : (p : Program) → ((u : ℕ) (v : Var) → Uses v (body_of p u) → v ≡ Object 0) → IsUnaliased p
 unaliased p only path u bound v w k under of_v of_w differ stores denotes_v denotes_w = differ (only u v of_v ∙ sym (only u w of_w))
 
--- ---- N = 2 + 3; PRINT *, N + 1
+-- N = 2 + 3; PRINT *, N + 1
 one_slots : (u : ℕ) → SlotsRoom (body_of one u)
 one_slots zero = search rules
 one_slots (suc u) = tt
@@ -59,30 +59,3 @@ one_apart records s = tt
 
 pub one_sound : (code : Code) → code ≡ unmarked one → IsSound code
 one_sound code is = subst IsSound (sym is) (code_is_sound one none one_resolved refl (record { units = omega arith; slots = one_slots; bodies = one_bodies }) (unaliased one one_uses) one_apart)
-
--- ---- DO K = 9223372036854775806, 9223372036854775807; PRINT *, K; END DO
-largest_slots : (u : ℕ) → SlotsRoom (body_of largest u)
-largest_slots zero = search rules
-largest_slots (suc u) = tt
-
-largest_bodies : (u : ℕ) → StmtRoom (λ k. k ≤ STACK) (λ k. k ≤ NEST) (λ k. k ≤ ARGUMENTS) 0 (body_of largest u)
-largest_bodies zero = search rules
-largest_bodies (suc u) = tt
-
-largest_uses : (u : ℕ) (v : Var) → Uses v (body_of largest u) → v ≡ Object 0
-largest_uses zero v (inl (inl (inl z))) = absurd z
-largest_uses zero v (inl (inl (inr (inl z)))) = absurd z
-largest_uses zero v (inl (inl (inr (inr z)))) = absurd z
-largest_uses zero v (inl (inr (inl e))) = sym e
-largest_uses zero v (inl (inr (inr (inl (inl a))))) = sym (any_one (ItemMentions (λ at. at.var ≡ v)) _ a)
-largest_uses zero v (inl (inr (inr (inl (inr z))))) = absurd z
-largest_uses zero v (inl (inr (inr (inr (inl e))))) = sym e
-largest_uses zero v (inl (inr (inr (inr (inr e))))) = sym e
-largest_uses zero v (inr z) = absurd z
-largest_uses (suc u) v z = absurd z
-
-largest_apart : (records : Input) → IsApart (process_of largest records)
-largest_apart records s = tt
-
-pub largest_sound : (code : Code) → code ≡ unmarked largest → IsSound code
-largest_sound code is = subst IsSound (sym is) (code_is_sound largest none largest_resolved refl (record { units = omega arith; slots = largest_slots; bodies = largest_bodies }) (unaliased largest largest_uses) largest_apart)

@@ -1,13 +1,13 @@
-// Codes built by hand, their output and their ends.
+// A code built by hand, its output and its end.
 ghost use Rattle.std.specs.Prelude.{◌≡◌, IfOk, [], ◌∷◌};
-ghost use Rattle.cdc_prog.specs.Examples.{scalar, one, largest};
+ghost use Rattle.cdc_prog.specs.Examples.{scalar, one};
 ghost use Rattle.cdc_code.specs.Examples.{unmarked};
 
 use cdc_base::{List, MemSink, NoMemory};
 use cdc_code::{Code, Instr, Step, Var};
 use cdc_input::InputRecords;
 use cdc_prog::Object;
-use cdc_task::{FaultKind, Mark, Plain, run_alone};
+use cdc_task::{Mark, Plain, run_alone};
 use std::alloc::Global;
 use std::test::Fail;
 
@@ -62,29 +62,6 @@ fn sum(alloc: Global) -> Result<Code, NoMemory>
     code(alloc, steps)
 }
 
-// DO K = 9223372036854775806, 9223372036854775807; PRINT *, K; END DO
-fn last_turns(alloc: Global) -> Result<Code, NoMemory>
-    ensures { IfOk result (λ c. c ≡ unmarked largest) }
-{
-    let steps = vec![in alloc;
-        at(2, Instr::Const(9223372036854775806)),
-        at(2, Instr::Const(9223372036854775807)),
-        at(2, Instr::Const(1)),
-        at(2, Instr::Doinit),
-        at(2, Instr::Store(N, 1)),
-        at(2, Instr::Dotest(8)),
-        at(3, Instr::Load(N, 2, Mark::Ordinary)),
-        at(3, Instr::Put),
-        at(3, Instr::Line),
-        at(2, Instr::Load(N, 3, Mark::Ordinary)),
-        at(2, Instr::Doadd),
-        at(2, Instr::Store(N, 4)),
-        at(2, Instr::Jump(-7)),
-        at(0, Instr::Halt),
-    ]?;
-    code(alloc, steps)
-}
-
 #[test]
 fn code_is_carried_out(rt: HostRuntime) -> Result<(), Fail> {
     let alloc = rt.alloc();
@@ -101,15 +78,5 @@ fn code_is_carried_out(rt: HostRuntime) -> Result<(), Fail> {
         Plain::SinkFault
     );
     assert_eq!(rt; small.bytes(), b"6".as_slice());
-    let turns = last_turns(alloc)?;
-    let mut lines = MemSink::new(alloc, 200, vec![in alloc]?)?;
-    assert_eq!(rt;
-        run_alone(alloc, &turns, &records, &mut lines),
-        Plain::Fault(FaultKind::Overflow, 2)
-    );
-    assert_eq!(rt;
-        lines.bytes(),
-        b"9223372036854775806\n9223372036854775807\n".as_slice()
-    );
     Ok(())
 }
