@@ -3,8 +3,6 @@
 
 mod overlaps;
 mod sections;
-#[cfg(test)]
-mod tests;
 mod triplets;
 
 pub use overlaps::overlap;
