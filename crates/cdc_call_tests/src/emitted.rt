@@ -1,5 +1,5 @@
-// A program with a CALL built by hand, and the code that the table of templates gives for it. The other statements are in the
-// tests of cdc_compile, where a source is a string.
+// A program with a CALL built by hand, and the code that the table of templates gives for it. The other statements are in
+// cdc_compile_tests, where a source is a string.
 use cdc_base::{List, NoMemory, Place};
 use cdc_code::{Code, Instr};
 use cdc_emit::emit;
